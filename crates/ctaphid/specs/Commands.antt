@@ -1,0 +1,34 @@
+-- §11.2.9: the commands. Assumes nothing.
+use Prim.Native.Nat.{ℕ}
+use mathlib.Core.List.{List, [], _∷_}
+use lib.Dec.{eqb}
+use Rattle.ctaphid.specs.Choice.{pick}
+
+pub data Command : Type 0 where
+  MSG CBOR INIT PING CANCEL ERROR KEEPALIVE WINK LOCK : Command
+
+-- the number of each, in the standard's order
+abbrev pub number : Command → ℕ
+-- §11.2.9.1, mandatory
+number MSG = 0x03
+number CBOR = 0x10
+number INIT = 0x06
+number PING = 0x01
+number CANCEL = 0x11
+number ERROR = 0x3f
+number KEEPALIVE = 0x3b
+-- §11.2.9.2, optional
+number WINK = 0x08
+number LOCK = 0x04
+
+abbrev pub commands : List Command
+commands = MSG ∷ CBOR ∷ INIT ∷ PING ∷ CANCEL ∷ ERROR ∷ KEEPALIVE ∷ WINK ∷ LOCK ∷ []
+
+-- the first of these commands that has this number, or ERROR where none has
+unfoldable pub among : List Command → ℕ → Command
+among [] n = ERROR
+among (c ∷ rest) n = pick (eqb n (number c)) c (among rest n)
+
+-- a command's number read. That any other number reads as ERROR is DIFFERENCES 1
+abbrev pub commandOf : ℕ → Command
+commandOf n = among commands n

@@ -1,0 +1,6 @@
+pub mod Choice
+pub mod Packets
+pub mod Commands
+pub mod Errors
+pub mod Capabilities
+pub mod Limits

@@ -1,0 +1,28 @@
+-- Sizes and times. Assumes nothing.
+use Prim.Native.Nat.{ℕ, _+_, _-_, _*_, _^_}
+
+-- §11.2.4: a packet over HID, and the data fields of an initialization and of a continuation packet
+abbrev pub packetSize : ℕ
+packetSize = 64
+
+abbrev pub firstField : ℕ
+firstField = 57
+
+abbrev pub laterField : ℕ
+laterField = 59
+
+-- §11.2.4: sequence numbers go from 0 to 127, so 128 continuation packets at most follow the first: 7,609 bytes
+abbrev pub largest : ℕ
+largest = 57 + 128 * 59
+
+-- §11.2.5.2 gives no figure: DIFFERENCES 2. Milliseconds
+abbrev pub timeout : ℕ
+timeout = 100
+
+-- §11.2.9.2.1 leaves the sign to the vendor: DIFFERENCES 3. Milliseconds
+abbrev pub winkTime : ℕ
+winkTime = 5000
+
+-- the last time that there is, in milliseconds (docs/DECISIONS.md, 3)
+abbrev pub lastTime : ℕ
+lastTime = 2 ^ 48 - 1

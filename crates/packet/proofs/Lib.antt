@@ -1,0 +1,4 @@
+pub mod Parts
+pub mod Reading
+pub mod Numbers
+pub mod Unique

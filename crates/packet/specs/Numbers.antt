@@ -1,0 +1,35 @@
+-- What each case of the code's enums is in the standard. Assumes nothing.
+use Rattle.ctaphid.specs.Commands as standard
+use Rattle.ctaphid.specs.Errors as errors
+use Rattle.ctaphid.specs.Capabilities as capabilities
+use Rattle.packet.specs.declared.command.CtapHidCommand.{CtapHidCommand}
+use Rattle.packet.specs.declared.command.CtapHidCommand.the-variants.{Ping, Msg, Lock, Init, Wink, Cbor, Cancel, Keepalive, Error}
+use Rattle.packet.specs.declared.error.CtapHidError.{CtapHidError}
+use Rattle.packet.specs.declared.error.CtapHidError.the-variants.{InvalidCmd, InvalidPar, InvalidLen, InvalidSeq, MsgTimeout, ChannelBusy, InvalidChannel}
+use Rattle.packet.specs.declared.capability.Capability.{Capability}
+use Rattle.packet.specs.declared.capability.Capability.the-variants.{Wink as HasWink, Cbor as HasCbor, Nmsg}
+
+abbrev pub commandMeant : CtapHidCommand → standard.Command
+commandMeant Ping = standard.PING
+commandMeant Msg = standard.MSG
+commandMeant Lock = standard.LOCK
+commandMeant Init = standard.INIT
+commandMeant Wink = standard.WINK
+commandMeant Cbor = standard.CBOR
+commandMeant Cancel = standard.CANCEL
+commandMeant Keepalive = standard.KEEPALIVE
+commandMeant Error = standard.ERROR
+
+abbrev pub errorMeant : CtapHidError → errors.Error
+errorMeant InvalidCmd = errors.InvalidCmd
+errorMeant InvalidPar = errors.InvalidPar
+errorMeant InvalidLen = errors.InvalidLen
+errorMeant InvalidSeq = errors.InvalidSeq
+errorMeant MsgTimeout = errors.MsgTimeout
+errorMeant ChannelBusy = errors.ChannelBusy
+errorMeant InvalidChannel = errors.InvalidChannel
+
+abbrev pub capabilityMeant : Capability → capabilities.Capability
+capabilityMeant HasWink = capabilities.wink
+capabilityMeant HasCbor = capabilities.cbor
+capabilityMeant Nmsg = capabilities.nmsg
