@@ -1,3 +1,5 @@
 pub mod Tests
 pub mod Packets
 pub mod Commands
+pub mod Splitting
+pub mod Messages

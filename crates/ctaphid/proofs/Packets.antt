@@ -1,15 +1,14 @@
--- What reading gives, by the kind of packet, and that each part of a packet is within its range. Assumes nothing.
-use Prim.Native.Nat.{ℕ, _-_, _≤_, _<_}
+-- What reading gives, by the kind of packet; that each part is within its range; and that a written packet reads as itself. Assumes nothing.
+use Prim.Native.Nat.{ℕ, _+_, _-_, _*_, _/_, _%_, _^_, _≤_, _<_}
 use native.Mathlib.Omega.{arith}
-use mathlib.Core.Path.{_≡_, subst⁻¹}
+use mathlib.Core.Path.{_≡_, _∙_}
 use mathlib.Core.List.{List}
-use mathlib.Core.Logic.{⊎-elim}
 use native.Mathlib.Decide.{decLe}
 use borrow.Author.Tests.{le-leb, lt-leb}
 use lib.ListN.{length, drop, length-drop}
 use Rattle.ctaphid.specs.Choice.{pick}
 use Rattle.ctaphid.specs.Limits.{packetSize}
-use Rattle.ctaphid.specs.Packets.{Packet, initialization, continuation, byte, channelIn, declaredIn, read, Bytes, Formed}
+use Rattle.ctaphid.specs.Packets.{Packet, initialization, continuation, byte, channelIn, declaredIn, read, written, Bytes, Formed}
 
 module _ (p : List ℕ) where
   pub read-first : 0x80 ≤ byte p 4 → read p ≡ initialization (channelIn p) (byte p 4 - 0x80) (declaredIn p) (drop 7 p)
@@ -39,3 +38,22 @@ module _ (p : List ℕ) where
             omega arith,
             simp length-drop (omega arith),
           )
+
+-- ---- a packet that was written
+
+-- a number put together from its bytes
+four-is : (c : ℕ) → c < 2 ^ 32 → c / 0x100_0000 * 0x100_0000 + c / 0x1_0000 % 0x100 * 0x1_0000 + c / 0x100 % 0x100 * 0x100 + c % 0x100 ≡ c
+four-is c h = omega arith
+
+pub read-written : (p : Packet) → Formed p → read (written p) ≡ p
+unfolding written channelIn declaredIn
+read-written (initialization c cmd n field) h =
+    let command : cmd + 0x80 - 0x80 ≡ cmd = omega arith in
+    let declared : n / 0x100 * 0x100 + n % 0x100 ≡ n = omega arith in
+    read-first _ (omega arith) ∙ (λ i. initialization (four-is c (h .0) i) (command i) (declared i) field)
+read-written (continuation c k field) h = read-later _ (h .1) ∙ (λ i. continuation (four-is c (h .0) i) k field)
+
+pub written-length : (p : Packet) → Formed p → length (written p) ≡ packetSize
+unfolding written
+written-length (initialization c cmd n field) h = omega (arith, h .3)
+written-length (continuation c k field) h = omega (arith, h .2)

@@ -1,6 +1,13 @@
--- A definition that goes by a test. Assumes nothing.
+-- Definitions that go by tests. Assumes nothing.
+use Prim.Native.Nat.{ℕ}
 use mathlib.Core.Bool.{Bool, cond}
+use mathlib.Core.List.{List, [], _∷_}
 
 -- the first where the test holds, and else the second: the library's `cond`, kept shut so that a proof follows one test at a time
 unfoldable pub pick : {A : Type 0} → Bool → A → A → A
 pick test a b = cond test a b
+
+-- a list of tests, each with a refusal's number: the first that holds refuses; where none does, the last argument
+abbrev pub refusing : {A : Type 0} → (ℕ → A) → List (Bool × ℕ) → A → A
+refusing refused [] a = a
+refusing refused ((test, number) ∷ rest) a = pick test (refused number) (refusing refused rest a)

@@ -1,5 +1,6 @@
 pub mod Choice
 pub mod Packets
+pub mod Messages
 pub mod Commands
 pub mod Errors
 pub mod Capabilities

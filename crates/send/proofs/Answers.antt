@@ -1,0 +1,57 @@
+-- What `writeOf` and `splitOf` give, by their tests. Assumes nothing.
+use Prim.Native.Nat.{ℕ, suc, _+_, _*_, _/_, _≤_, _<_}
+use native.Mathlib.Omega.{arith}
+use mathlib.Core.Path.{_≡_, ap, _∙_}
+use mathlib.Core.List.{List, [], _∷_}
+use borrow.Author.Tests.{eq-eqb, ne-eqb, lt-ltb, le-ltb, le-leb, lt-leb}
+use lib.ListN.{length, take, drop, getD}
+use Rattle.ctaphid.specs.Choice.{pick}
+use Rattle.ctaphid.specs.Packets.{initialization, continuation, written}
+use Rattle.ctaphid.specs.Messages.{padded, wire, splitWire}
+use Rattle.ctaphid.specs.Commands.{CBOR, number}
+use Rattle.ctaphid.proofs.Messages.{wire-length, wire-first, wire-later}
+use Rattle.send.specs.Sending.{left, writeOf, splitOf}
+use Rattle.send.specs.declared.Written.the-variants.{Packet, Refused}
+
+module _ (cid cmd : ℕ) (payload : List ℕ) (index : ℕ) (old : List ℕ) where
+  pub refuses-1 : (length old ≡ 64 → ⊥) → writeOf cid cmd payload index old ≡ left (Refused 1) old
+  unfolding writeOf pick
+  refuses-1 size = simp (ne-eqb _ _ size)
+
+  module _ (size : length old ≡ 64) where
+    pub refuses-12 : 127 < cmd → writeOf cid cmd payload index old ≡ left (Refused 12) old
+    unfolding writeOf pick
+    refuses-12 c = simp (eq-eqb _ _ size, lt-ltb _ _ c)
+
+    pub refuses-7 : cmd ≤ 127 → 7609 < length payload → writeOf cid cmd payload index old ≡ left (Refused 7) old
+    unfolding writeOf pick
+    refuses-7 c n = simp (eq-eqb _ _ size, le-ltb _ _ c, lt-ltb _ _ n)
+
+    pub refuses-6 : cmd ≤ 127 → length payload ≤ 7609 → 1 + (length payload + 1) / 59 ≤ index → writeOf cid cmd payload index old ≡ left (Refused 6) old
+    unfolding writeOf pick
+    refuses-6 c n i =
+        simp (eq-eqb _ _ size, le-ltb _ _ c, le-ltb _ _ n, le-leb (length (wire cid cmd payload)) index (omega (arith, wire-length cid cmd payload)))
+
+    pub writes : cmd ≤ 127 → length payload ≤ 7609 → index < 1 + (length payload + 1) / 59 → writeOf cid cmd payload index old ≡ left Packet (getD (wire cid cmd payload) index [])
+    unfolding writeOf pick
+    writes c n i =
+        simp (eq-eqb _ _ size, le-ltb _ _ c, le-ltb _ _ n, lt-leb (length (wire cid cmd payload)) index (omega (arith, wire-length cid cmd payload)))
+
+-- ---- a reply of any length
+module _ (cid cmd : ℕ) (payload : List ℕ) (internal index : ℕ) (old : List ℕ) where
+  pub split-short : length payload ≤ 7609 → splitOf cid cmd payload internal index old ≡ writeOf cid cmd payload index old
+  unfolding splitOf writeOf splitWire pick
+  split-short n = simp (le-ltb 7609 (length payload) n)
+
+  pub split-1 : (length old ≡ 64 → ⊥) → splitOf cid cmd payload internal index old ≡ left (Refused 1) old
+  unfolding splitOf pick
+  split-1 size = simp (ne-eqb _ _ size)
+
+  pub split-12 : length old ≡ 64 → 127 < cmd → splitOf cid cmd payload internal index old ≡ left (Refused 12) old
+  unfolding splitOf pick
+  split-12 size c = simp (eq-eqb _ _ size, lt-ltb _ _ c)
+
+  -- what is too long is replaced
+  pub split-long : length old ≡ 64 → cmd ≤ 127 → 7609 < length payload → splitOf cid cmd payload internal index old ≡ writeOf cid (number CBOR) (internal ∷ []) index old
+  unfolding splitOf writeOf splitWire pick
+  split-long size c n = simp (eq-eqb _ _ size, le-ltb _ _ c, lt-ltb 7609 (length payload) n)
