@@ -7,7 +7,7 @@ use native.Mathlib.Nat.{add-zero}
 use lib.Dec.{lit<}
 use lib.ListN.{length, take, drop, getD, length-map, length-drop}
 use Rattle.ctaphid.specs.Packets.{Packet, initialization, continuation, written}
-use Rattle.ctaphid.specs.Messages.{later, chunks, count, padded, fields, continuations, packets, wire}
+use Rattle.ctaphid.specs.Messages.{later, chunks, count, padded, fields, continuations, packets, wire, CutsOverHid}
 use Rattle.ctaphid.proofs.Splitting.{chunks-length, chunks-later}
 
 -- an element of a list that a function was mapped over
@@ -60,3 +60,12 @@ module _ (c cmd : ℕ) (payload : List ℕ) where
       continuations-at c 0 (map (padded 59) l) i (omega (arith, length-map l (padded 59)))
       ∙ ap (λ (t : List ℕ). written (continuation c (0 + i) t)) (getD-map (padded 59) l i [] [] within ∙ ap (padded 59) (chunks-later 57 59 (lit< tt) payload i))
       ∙ ap (λ (k : ℕ). written (continuation c k (padded 59 (take 59 (drop (57 + 59 * i) payload))))) (omega arith)
+
+pub cuts-over-hid : CutsOverHid
+cuts-over-hid = record {
+  formula = packets-length;
+  of-57 = refl;
+  of-58 = refl;
+  of-7609 = refl;
+  last = λ c cmd payload e. wire-later c cmd payload 127 (omega arith);
+}

@@ -1,17 +1,11 @@
 -- Sizes and times. Assumes nothing.
 use Prim.Native.Nat.{ℕ, _+_, _-_, _*_, _^_}
 
--- §11.2.4: a packet over HID, and the data fields of an initialization and of a continuation packet
+-- §11.2.4: a packet over HID
 abbrev pub packetSize : ℕ
 packetSize = 64
 
-abbrev pub firstField : ℕ
-firstField = 57
-
-abbrev pub laterField : ℕ
-laterField = 59
-
--- §11.2.4: sequence numbers go from 0 to 127, so 128 continuation packets at most follow the first: 7,609 bytes
+-- §11.2.4: 57 bytes in an initialization packet, and 59 in each continuation packet, whose numbers go from 0 to 127: 7,609 bytes
 abbrev pub largest : ℕ
 largest = 57 + 128 * 59
 

@@ -73,6 +73,14 @@ packets c cmd payload = packetsOf c cmd (length payload) (fields 57 59 payload)
 abbrev pub wire : (channel command : ℕ) → List ℕ → List (List ℕ)
 wire c cmd payload = map written (packets c cmd payload)
 
+-- what that comes to, with the scope's figures: 57 bytes make 1 packet, 58 make 2, and 7,609 make 129, the last of which has number 127
+pub record CutsOverHid : Type 0 where
+  pub formula : (c cmd : ℕ) (payload : List ℕ) → length (packets c cmd payload) ≡ 1 + (length payload + 1) / 59
+  pub of-57 : count 57 59 57 ≡ 1
+  pub of-58 : count 57 59 58 ≡ 2
+  pub of-7609 : count 57 59 7609 ≡ 129
+  pub last : (c cmd : ℕ) (payload : List ℕ) → length payload ≡ 7609 → getD (wire c cmd payload) 128 [] ≡ written (continuation c 127 (padded 59 (take 59 (drop (57 + 59 * 127) payload))))
+
 -- a reply of any length: one that no 129 packets hold is replaced by CBOR with one byte, a setting (DIFFERENCES 5)
 unfoldable pub splitWire : (channel command : ℕ) → List ℕ → (internal : ℕ) → List (List ℕ)
 splitWire c cmd payload internal =

@@ -1,1 +1,4 @@
 pub mod Answers
+pub mod Sending
+pub mod Driven
+pub mod Unique

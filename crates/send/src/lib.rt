@@ -1,11 +1,17 @@
 // A message cut into packets, after OpenSK's hid/send.rs.
+mod sender;
+
 use packet::CtapHidCommand;
 use packet::Limits;
+pub use sender::Admission;
+pub use sender::Next;
+pub use sender::Sender;
+pub use sender::Started;
 ghost use mathlib.Core.Path.{_≡_};
-ghost use mathlib.Core.List.{_++_};
+ghost use mathlib.Core.List.{[], _∷_, _++_};
 ghost use Prim.Native.Nat.{_+_, _-_, _/_, _*_, _≤_, _<_};
 ghost use lib.ListN.{length, take, drop, replicate};
-ghost use Rattle.ctaphid.specs.Packets.{initialization, continuation, written};
+ghost use Rattle.ctaphid.specs.Packets.{four, initialization, continuation, written};
 ghost use Rattle.ctaphid.specs.Messages.{padded};
 ghost use Rattle.send.specs.Sending.{countOf, left, writeOf, splitOf};
 
@@ -51,7 +57,7 @@ pub fn write_packet(cid: u32, cmd: u8, payload: &[u8], index: usize, packet: &mu
         init_packet(cid, cmd, payload, packet);
         return Written::Packet;
     }
-    continuation_packet(cid, payload, index - 1, packet);
+    continuation_packet(cid, payload, index, packet);
     Written::Packet
 }
 
@@ -92,40 +98,42 @@ fn init_packet(cid: u32, cmd: u8, payload: &[u8], packet: &mut [u8])
     ensures { λ _. ⌜ now (packet .exit) ≡ written (initialization cid cmd (length (now (payload .entry))) (padded 57 (take 57 (now (payload .entry))))) ⌝ }
 {
     let len = payload.len();
-    let head = [
-        (cid / 0x100_0000) as u8,
-        (cid / 0x1_0000 % 0x100) as u8,
-        (cid / 0x100 % 0x100) as u8,
-        (cid % 0x100) as u8,
-        cmd + 0x80,
-        (len / 0x100) as u8,
-        (len % 0x100) as u8,
-    ];
-    fill(packet, &head, payload);
+    let front = head(cid, cmd + 0x80, (len / 0x100) as u8, (len % 0x100) as u8);
+    fill(packet, &front, payload);
 }
 
-fn continuation_packet(cid: u32, payload: &[u8], seq: usize, packet: &mut [u8])
-    requires { ⌜ (seq ≤ 127) × (57 + 59 * seq ≤ length (now payload)) × (length (now packet) ≡ 64) ⌝ }
-    ensures { λ _. ⌜ now (packet .exit) ≡ written (continuation cid seq (padded 59 (take 59 (drop (57 + 59 * seq) (now (payload .entry)))))) ⌝ }
+fn continuation_packet(cid: u32, payload: &[u8], index: usize, packet: &mut [u8])
+    requires { ⌜ (1 ≤ index) × (index ≤ 128) × (57 + 59 * (index - 1) ≤ length (now payload)) × (length (now packet) ≡ 64) ⌝ }
+    ensures { λ _. ⌜ now (packet .exit) ≡ written (continuation cid (index - 1) (padded 59 (take 59 (drop (57 + 59 * (index - 1)) (now (payload .entry)))))) ⌝ }
 {
-    let head = [
-        (cid / 0x100_0000) as u8,
-        (cid / 0x1_0000 % 0x100) as u8,
-        (cid / 0x100 % 0x100) as u8,
-        (cid % 0x100) as u8,
-        seq as u8,
-    ];
+    let seq = index - 1;
     let at = 57 + 59 * seq;
-    fill(packet, &head, &payload[at..]);
+    let front = head(cid, seq as u8, 0, 0);
+    fill(packet, &front[..5], &payload[at..]);
 }
 
-// A packet's head, and then its data.
-fn fill(packet: &mut [u8], head: &[u8], data: &[u8])
-    requires { ⌜ length (now head) ≤ length (now packet) ⌝ }
-    ensures { λ _. ⌜ now (packet .exit) ≡ now (head .entry) ++ padded (length (now (packet .entry)) - length (now (head .entry))) (take (length (now (packet .entry)) - length (now (head .entry))) (now («data» .entry))) ⌝ }
+// The channel and the three bytes after it, of which a continuation has the first.
+fn head(cid: u32, a: u8, b: u8, c: u8) -> [u8; 7]
+    ensures { λ r. ⌜ r ≡ four cid ++ (a ∷ b ∷ c ∷ []) ⌝ }
 {
-    bytes::copy(head, packet);
-    let at = head.len();
+    [
+        (cid / 0x100_0000) as u8,
+        (cid / 0x1_0000 % 0x100) as u8,
+        (cid / 0x100 % 0x100) as u8,
+        (cid % 0x100) as u8,
+        a,
+        b,
+        c,
+    ]
+}
+
+// A packet's front, and then its data.
+fn fill(packet: &mut [u8], front: &[u8], data: &[u8])
+    requires { ⌜ length (now front) ≤ length (now packet) ⌝ }
+    ensures { λ _. ⌜ now (packet .exit) ≡ now (front .entry) ++ padded (length (now (packet .entry)) - length (now (front .entry))) (take (length (now (packet .entry)) - length (now (front .entry))) (now («data» .entry))) ⌝ }
+{
+    bytes::copy(front, packet);
+    let at = front.len();
     consume_data(&mut packet[at..], data);
 }
 

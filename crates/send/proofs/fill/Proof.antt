@@ -45,13 +45,13 @@ returns c =
     let at-copy = at-consume .before .before .before .before in
     let a = at-copy .before .before .before .before .before .args in
     let packet = a .packet .now in
-    let head = a .head .now in
+    let front = a .front .now in
     let copied = at-copy .copy .last .1 .0 in
     let long : length copied ≡ length packet = at-copy .copy .kept .1 .0 in
-    let room : length (take (length copied - length head) (drop (length head) copied)) ≡ length packet - length head =
-    rest-length (length head) copied ∙ ap (λ (k : ℕ). k - length head) long in
-    front-and-rest head packet copied (at-consume .consume-data .last .0) (omega arith) (at-copy .copy .ensures .1)
-    ∙ ap (λ (t : List ℕ). head ++ t) (at-consume .consume-data .ensures ∙ ap (λ (k : ℕ). padded k (take k (a .«data» .now))) room)
+    let room : length (take (length copied - length front) (drop (length front) copied)) ≡ length packet - length front =
+    rest-length (length front) copied ∙ ap (λ (k : ℕ). k - length front) long in
+    front-and-rest front packet copied (at-consume .consume-data .last .0) (omega arith) (at-copy .copy .ensures .1)
+    ∙ ap (λ (t : List ℕ). front ++ t) (at-consume .consume-data .ensures ∙ ap (λ (k : ℕ). padded k (take k (a .«data» .now))) room)
 
 pub fill-spec : {M : Type 1} → statement M
 fill-spec =

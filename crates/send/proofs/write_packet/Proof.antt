@@ -12,41 +12,28 @@ use Rattle.send.proofs.Answers.{refuses-1, refuses-12, refuses-7, refus
 use borrow.Author.Needs.{needs}
 use Rattle.send.proofs.write_packet.Statement.{statement}
 use Rattle.send.proofs.write_packet.Tie as tie
-use Rattle.send.proofs.write_packet.Reads as reads
-use Rattle.send.proofs.write_packet.Lts as lts
-use Rattle.send.proofs.continuation_packet.Reads as continuation-packet-reads
-use Rattle.send.proofs.init_packet.Reads as init-packet-reads
-use Rattle.send.proofs.packets_in.Reads as packets-in-reads
 
--- src/lib.rt:39:9
 returns : tie.Need-returns
 returns c = sym (refuses-1 _ _ _ _ _ (c .if1 .taken))
 
--- src/lib.rt:42:9
 returns-2 : tie.Need-returns-2
 returns-2 c = sym (refuses-12 _ _ _ _ _ (omega arith) (omega arith))
 
--- src/lib.rt:45:9
 returns-3 : tie.Need-returns-3
 returns-3 c = sym (refuses-7 _ _ _ _ _ (omega arith) (omega arith) (omega arith))
 
--- src/lib.rt:47:17
 packets-in-requires : tie.Need-packets-in-requires
 packets-in-requires c κs = search needs
 
--- src/lib.rt:48:9
 returns-4 : tie.Need-returns-4
 returns-4 c = sym (refuses-6 _ _ _ _ _ (omega arith) (omega arith) (omega arith) (omega arith))
 
--- src/lib.rt:51:9
 init-packet-requires : tie.Need-init-packet-requires
 init-packet-requires c κs = search needs
 
--- src/lib.rt:52:9
 same-length : tie.Need-same-length
 same-length c = search needs
 
--- src/lib.rt:52:9
 returns-5 : tie.Need-returns-5
 returns-5 c =
     let at-init = c .before .before in
@@ -55,19 +42,12 @@ returns-5 c =
     ap (left Packet) (at-init .init-packet .ensures ∙ rw first (sym (wire-first (a .cid) (a .cmd) (a .payload .now))))
     ∙ sym (writes _ _ _ _ _ (omega arith) (omega arith) (omega arith) (omega arith))
 
--- src/lib.rt:54:39
-sub-continuation-packet : tie.Need-sub-continuation-packet
-sub-continuation-packet c = search needs
-
--- src/lib.rt:54:5
 continuation-packet-requires : tie.Need-continuation-packet-requires
 continuation-packet-requires c κs = search needs
 
--- src/lib.rt:35:1
 same-length-2 : tie.Need-same-length-2
 same-length-2 c = search needs
 
--- src/lib.rt:35:1
 returns-6 : tie.Need-returns-6
 returns-6 c =
     let at-continuation = c .before .before in
@@ -88,7 +68,6 @@ write-packet-spec =
     init-packet-requires
     same-length
     returns-5
-    sub-continuation-packet
     continuation-packet-requires
     same-length-2
     returns-6)
