@@ -1,5 +1,6 @@
 -- §11.2.9: the commands. Assumes nothing.
 use Prim.Native.Nat.{ℕ}
+use mathlib.Core.Bool.{Bool}
 use mathlib.Core.List.{List, [], _∷_}
 use lib.Dec.{eqb}
 use Rattle.ctaphid.specs.Choice.{pick}
@@ -20,6 +21,10 @@ number KEEPALIVE = 0x3b
 -- §11.2.9.2, optional
 number WINK = 0x08
 number LOCK = 0x04
+
+-- whether the two are the same
+abbrev pub is : Command → Command → Bool
+is a b = eqb (number a) (number b)
 
 abbrev pub commands : List Command
 commands = MSG ∷ CBOR ∷ INIT ∷ PING ∷ CANCEL ∷ ERROR ∷ KEEPALIVE ∷ WINK ∷ LOCK ∷ []

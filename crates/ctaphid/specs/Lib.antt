@@ -5,3 +5,6 @@ pub mod Commands
 pub mod Errors
 pub mod Capabilities
 pub mod Limits
+pub mod Receiver
+pub mod Transport
+pub mod Device

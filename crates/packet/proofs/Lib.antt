@@ -1,4 +1,4 @@
 pub mod Parts
-pub mod Reading
+pub mod Packets
 pub mod Numbers
 pub mod Unique

@@ -2,22 +2,11 @@
 use mathlib.Core.Path.{_≡_, refl, sym, ap, _∙_}
 use Rattle.ctaphid.specs.Commands as standard
 use Rattle.ctaphid.proofs.Commands.{command-of-number}
-use Rattle.packet.specs.Numbers.{commandMeant}
+use Rattle.packet.specs.Numbers.{commandMeant, commandCase}
 use Rattle.packet.specs.declared.command.CtapHidCommand.{CtapHidCommand}
 use Rattle.packet.specs.declared.command.CtapHidCommand.the-variants.{Ping, Msg, Lock, Init, Wink, Cbor, Cancel, Keepalive, Error}
 
-abbrev case : standard.Command → CtapHidCommand
-case standard.MSG = Msg
-case standard.CBOR = Cbor
-case standard.INIT = Init
-case standard.PING = Ping
-case standard.CANCEL = Cancel
-case standard.ERROR = Error
-case standard.KEEPALIVE = Keepalive
-case standard.WINK = Wink
-case standard.LOCK = Lock
-
-case-meant : (x : CtapHidCommand) → case (commandMeant x) ≡ x
+pub case-meant : (x : CtapHidCommand) → commandCase (commandMeant x) ≡ x
 case-meant Ping = refl
 case-meant Msg = refl
 case-meant Lock = refl
@@ -30,7 +19,7 @@ case-meant Error = refl
 
 -- two that mean the same are the same
 pub meant-one : (x y : CtapHidCommand) → commandMeant x ≡ commandMeant y → x ≡ y
-meant-one x y e = sym (case-meant x) ∙ (ap case e ∙ case-meant y)
+meant-one x y e = sym (case-meant x) ∙ (ap commandCase e ∙ case-meant y)
 
 -- reading the number of a command gives the command, whatever `from_u8` and `number` answer by their contracts
 pub number-read : (x y : CtapHidCommand) → commandMeant y ≡ standard.commandOf (standard.number (commandMeant x)) → y ≡ x

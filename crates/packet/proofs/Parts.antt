@@ -1,11 +1,11 @@
 -- Parts of a slice. Assumes nothing.
-use Prim.Native.Nat.{ℕ, _-_, _≤_}
+use Prim.Native.Nat.{ℕ, _+_, _-_, _≤_}
 use native.Mathlib.Omega.{arith}
 use mathlib.Core.Path.{_≡_, ap, _∙_}
 use mathlib.Core.List.{List, [], _++_, append-nil}
 use borrow.Rule.Slice.PartMut.{putMid, post-is}
 use lib.ListN.{length, take, drop, length-append, length-drop, drop-of-length-le}
-use lib.Seq.{take-all, take-length, take-append-seam}
+use lib.Seq.{take-all, take-length, take-append-seam, drop-drop}
 
 -- what `&s[k..]` holds
 pub rest : (k : ℕ) (l : List ℕ) → take (length l - k) (drop k l) ≡ drop k l
@@ -33,3 +33,8 @@ pub all-copied : (src old l : List ℕ) → length src ≡ length old → l ≡ 
 all-copied src old l h e =
     let none : drop (length src) old ≡ [] = drop-of-length-le old {i = length src} (omega arith) in
     e ∙ rw (take-length, none, append-nil)
+
+-- a slice that another was copied into, from a place on
+pub copied-at : (k : ℕ) (old src part : List ℕ) → k ≤ length old → part ≡ take (length src) src ++ drop (length src) (take (length old - k) (drop k old))
+    → putMid k (length old - k) old part ≡ take k old ++ (src ++ drop (k + length src) old)
+copied-at k old src part h e = put-rest k old part h ∙ ap (λ (t : List ℕ). take k old ++ t) (e ∙ rw (take-length, rest k old, drop-drop))

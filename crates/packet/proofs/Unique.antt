@@ -7,9 +7,8 @@ use denote.Ref.{RefT}
 use denote.Triple.Entry.{Args}
 use denote.Triple.Clauses.{Lasts}
 use Rattle.outcome.specs.One.{OneOutcome, OneOutcomeFrom, from-facts}
-use Rattle.packet.specs.Reading.{reading, fieldOf, headOf, ahead}
 use Rattle.packet.proofs.Numbers.{meant-one}
-use Rattle.packet.proofs.Reading.{said-one}
+use Rattle.packet.proofs.Packets.{said-one}
 use Rattle.packet.proofs.process_single_packet as process
 use Rattle.packet.proofs.packet_data as part
 use Rattle.packet.proofs.command.CtapHidCommand.from_u8 as from-u8

@@ -20,6 +20,18 @@ commandMeant Cancel = standard.CANCEL
 commandMeant Keepalive = standard.KEEPALIVE
 commandMeant Error = standard.ERROR
 
+-- and the case for each of the standard's commands
+abbrev pub commandCase : standard.Command → CtapHidCommand
+commandCase standard.MSG = Msg
+commandCase standard.CBOR = Cbor
+commandCase standard.INIT = Init
+commandCase standard.PING = Ping
+commandCase standard.CANCEL = Cancel
+commandCase standard.ERROR = Error
+commandCase standard.KEEPALIVE = Keepalive
+commandCase standard.WINK = Wink
+commandCase standard.LOCK = Lock
+
 abbrev pub errorMeant : CtapHidError → errors.Error
 errorMeant InvalidCmd = errors.InvalidCmd
 errorMeant InvalidPar = errors.InvalidPar

@@ -1,38 +1,45 @@
 -- What reading a packet answers, and where its data lies. Assumes nothing.
 use Prim.Native.Nat.{ℕ, _+_}
 use mathlib.Core.Path.{_≡_}
-use mathlib.Core.List.{List, []}
+use mathlib.Core.List.{List, [], _∷_}
+use mathlib.Core.Bool.{not}
 use lib.ListN.{length}
 use lib.Dec.{eqb}
 use denote.Ref.{RefT}
-use Rattle.ctaphid.specs.Choice.{pick}
+use Rattle.ctaphid.specs.Choice.{refusing}
 use Rattle.ctaphid.specs.Limits.{packetSize}
 use Rattle.ctaphid.specs.Packets.{Packet, initialization, continuation, read}
 use Rattle.packet.specs.declared.ProcessedPacket.{ProcessedPacket}
-use Rattle.packet.specs.declared.ProcessedPacket.the-variants.{InitPacket, ContinuationPacket, Refused}
+use Rattle.packet.specs.declared.ProcessedPacket.the-variants.{InitPacket, ContinuationPacket}
+use Rattle.packet.specs.declared.Reading.{Reading}
+use Rattle.packet.specs.declared.Reading.the-variants as reading
 
--- one of 01's refusals, or the standard's packet
-pub data Reading : Type 0 where
-  refused : (number : ℕ) → Reading
-  packet : Packet → Reading
+-- one of the scope's refusals, or the standard's packet
+pub data Read : Type 0 where
+  refused : (number : ℕ) → Read
+  packet : Packet → Read
 
 -- refusal 1: it isn't 64 bytes
-unfoldable pub reading : List ℕ → Reading
-reading p = pick (eqb (length p) packetSize) (packet (read p)) (refused 1)
+unfoldable pub readingOf : List ℕ → Read
+readingOf p = refusing refused ((not (eqb (length p) packetSize), 1) ∷ []) (packet (read p))
 
--- what each case says, with the data field beside it
-abbrev pub said : ProcessedPacket → List ℕ → Reading
-said (InitPacket cid cmd len) field = packet (initialization cid cmd len field)
-said (ContinuationPacket cid seq) field = packet (continuation cid seq field)
-said (Refused number) field = refused number
+-- the packet that kind and numbers say, with the data field beside them
+abbrev pub heard : ProcessedPacket → List ℕ → Packet
+heard (InitPacket cid cmd len) field = initialization cid cmd len field
+heard (ContinuationPacket cid seq) field = continuation cid seq field
 
-abbrev pub fieldOf : Reading → List ℕ
+-- what each answer says
+abbrev pub said : Reading → List ℕ → Read
+said (reading.Packet p) field = packet (heard p field)
+said (reading.Refused number) field = refused number
+
+abbrev pub fieldOf : Read → List ℕ
 fieldOf (refused number) = []
 fieldOf (packet (initialization cid cmd len field)) = field
 fieldOf (packet (continuation cid seq field)) = field
 
 -- how many bytes of the packet stand before its data
-abbrev pub headOf : Reading → ℕ
+abbrev pub headOf : Read → ℕ
 headOf (refused number) = 0
 headOf (packet (initialization cid cmd len field)) = 7
 headOf (packet (continuation cid seq field)) = 5
@@ -43,5 +50,5 @@ ahead k place = (place .0, k + place .1)
 
 -- r is the packet's data field, and is that part of the packet itself
 pub record IsField (p r : RefT (List ℕ)) : Type 0 where
-  pub bytes : r .now ≡ fieldOf (reading (p .now))
-  pub place : r .ptr ≡ ahead (headOf (reading (p .now))) (p .ptr)
+  pub bytes : r .now ≡ fieldOf (readingOf (p .now))
+  pub place : r .ptr ≡ ahead (headOf (readingOf (p .now))) (p .ptr)

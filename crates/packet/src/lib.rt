@@ -10,32 +10,37 @@ pub use error::CtapHidError;
 pub use limits::Limits;
 ghost use mathlib.Core.Path.{_≡_};
 ghost use Prim.Native.Nat.{_+_, _*_};
-ghost use Rattle.packet.specs.Reading.{said, reading, fieldOf, IsField};
+ghost use Rattle.packet.specs.Reading.{said, readingOf, fieldOf, IsField};
 
 // A packet's kind and numbers. Its data comes from packet_data.
 pub enum ProcessedPacket {
     InitPacket { cid: u32, cmd: u8, len: usize },
     ContinuationPacket { cid: u32, seq: u8 },
+}
+
+pub enum Reading {
+    Packet(ProcessedPacket),
     Refused(u8),
 }
 
 // A packet that isn't 64 bytes is refused with 1.
-pub fn process_single_packet(packet: &[u8]) -> ProcessedPacket
-    ensures { λ r. ⌜ said r (fieldOf (reading (now (packet .entry)))) ≡ reading (now (packet .entry)) ⌝ }
+pub fn process_single_packet(packet: &[u8]) -> Reading
+    ensures { λ r. ⌜ said r (fieldOf (readingOf (now (packet .entry)))) ≡ readingOf (now (packet .entry)) ⌝ }
 {
     if packet.len() != Limits::PACKET_SIZE {
-        return ProcessedPacket::Refused(1);
+        return Reading::Refused(1);
     }
     let cid = be32(packet[0], packet[1], packet[2], packet[3]);
     let kind = packet[4];
     if kind >= INIT_BIT {
-        ProcessedPacket::InitPacket {
+        let len = be16(packet[5], packet[6]);
+        Reading::Packet(ProcessedPacket::InitPacket {
             cid,
             cmd: kind - INIT_BIT,
-            len: be16(packet[5], packet[6]),
-        }
+            len,
+        })
     } else {
-        ProcessedPacket::ContinuationPacket { cid, seq: kind }
+        Reading::Packet(ProcessedPacket::ContinuationPacket { cid, seq: kind })
     }
 }
 

@@ -1,6 +1,7 @@
 // Runs packets through the reader and writes what it makes of each: a line for the packet, its data included.
 use libc::STDOUT_FILENO;
 use packet::ProcessedPacket;
+use packet::Reading;
 
 fn main() {
     text(b"the packets of the bench example\n");
@@ -32,6 +33,19 @@ fn read_front(front: &[u8]) {
 
 fn read(packet: &[u8]) {
     match packet::process_single_packet(packet) {
+        Reading::Packet(p) => show(p),
+        Reading::Refused(number) => {
+            text(b"refused ");
+            io::print_decimal(STDOUT_FILENO, number as u64);
+        }
+    }
+    text(b", data ");
+    hex(packet::packet_data(packet));
+    text(b"\n");
+}
+
+fn show(p: ProcessedPacket) {
+    match p {
         ProcessedPacket::InitPacket { cid, cmd, len } => {
             text(b"first packet on ");
             io::print_hex(STDOUT_FILENO, cid as u64, 8);
@@ -46,14 +60,7 @@ fn read(packet: &[u8]) {
             text(b", number ");
             io::print_decimal(STDOUT_FILENO, seq as u64);
         }
-        ProcessedPacket::Refused(number) => {
-            text(b"refused ");
-            io::print_decimal(STDOUT_FILENO, number as u64);
-        }
     }
-    text(b", data ");
-    hex(packet::packet_data(packet));
-    text(b"\n");
 }
 
 fn hex(data: &[u8]) {

@@ -3,7 +3,7 @@ use native.Mathlib.Omega.{arith}
 use native.Mathlib.Nat.{zero-add}
 use borrow.Author.Needs.{needs}
 use Rattle.packet.proofs.Parts.{rest}
-use Rattle.packet.proofs.Reading.{refuses, reads-first, reads-later}
+use Rattle.packet.proofs.Packets.{refuses, reads-first, reads-later}
 use Rattle.packet.proofs.packet_data.Statement.{statement}
 use Rattle.packet.proofs.packet_data.Tie as tie
 use Rattle.packet.proofs.packet_data.Reads as reads

@@ -1,7 +1,7 @@
 use native.Mathlib.Omega.{arith}
 use mathlib.Core.Path.{sym}
 use Rattle.ctaphid.specs.Packets.{channelIn, declaredIn}
-use Rattle.packet.proofs.Reading.{refuses, reads-first, reads-later}
+use Rattle.packet.proofs.Packets.{refuses, reads-first, reads-later}
 use borrow.Author.Needs.{needs}
 use Rattle.packet.proofs.process_single_packet.Statement.{statement}
 use Rattle.packet.proofs.process_single_packet.Tie as tie

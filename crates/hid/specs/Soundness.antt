@@ -1,0 +1,67 @@
+-- A sound state, as the scope lists it, in its order: as facts, and as the test that the code makes. Assumes nothing.
+use Prim.Native.Nat.{ℕ, _+_, _*_, _≤_, _<_}
+use mathlib.Core.Path.{_≡_}
+use mathlib.Core.List.{List, [], _∷_}
+use mathlib.Core.Bool.{Bool, true, false, not, _&&_, _||_}
+use mathlib.Core.Logic.{_⊎_}
+use lib.Dec.{ltb, leb, eqb}
+use Rattle.ctaphid.specs.Choice.{pick}
+use Rattle.ctaphid.specs.Limits.{largest, lastTime}
+use Rattle.ctaphid.specs.Transport.{broadcast, isAllocated}
+use Rattle.hid.specs.declared.MessageAssembler.{MessageAssembler}
+use Rattle.hid.specs.declared.CtapHid.{CtapHid}
+
+abbrev pub Allocated : (allocated channel : ℕ) → Type 0
+Allocated allocated c = (1 ≤ c) × (c ≤ allocated)
+
+-- with a transaction
+pub record Transacts (max allocated : ℕ) (a : MessageAssembler) : Type 0 where
+  pub command : a .cmd ≤ 127
+  pub long : 57 < a .len
+  pub most : a .len ≤ max
+  pub below : 57 + 59 * a .seq < a .len
+  pub bytes : 57 + 59 * a .seq ≡ a .taken
+  pub channel : Allocated allocated (a .cid) ⊎ ((a .cid ≡ 0xffff_ffff) × (a .cmd ≡ 6))
+
+-- a transport's state, and until when a wink runs
+pub record Sound (s : CtapHid) (until : ℕ) : Type 0 where
+  pub maximum : s .max ≤ 7609
+  pub count : s .allocated ≤ 0xffff_fffe
+  pub last : s .last ≤ 0xffff_ffff_ffff
+  pub deadline : s .assembler .deadline ≤ s .last + 100
+  pub lock : s .lock ≤ s .last + 10000
+  pub wink : until ≤ s .last + 5000
+  pub holder : s .last < s .lock → Allocated (s .allocated) (s .locked)
+  pub transaction : (s .assembler .len ≡ 0 → ⊥) → Transacts (s .max) (s .allocated) (s .assembler)
+
+-- ---- the same as a test
+
+-- whether all of these hold
+abbrev pub every : List Bool → Bool
+every [] = true
+every (test ∷ rest) = pick test (every rest) false
+
+unfoldable pub isOnChannel : (allocated channel command : ℕ) → Bool
+isOnChannel allocated c cmd = pick (isAllocated allocated c) true (every (eqb c 0xffff_ffff ∷ eqb cmd 6 ∷ []))
+
+unfoldable pub transacts : (max allocated : ℕ) → MessageAssembler → Bool
+transacts max allocated a =
+    every (leb (a .cmd) 127
+    ∷ ltb 57 (a .len)
+    ∷ leb (a .len) max
+    ∷ ltb (57 + 59 * a .seq) (a .len)
+    ∷ eqb (57 + 59 * a .seq) (a .taken)
+    ∷ isOnChannel allocated (a .cid) (a .cmd)
+    ∷ [])
+
+unfoldable pub isSound : CtapHid → (wink : ℕ) → Bool
+isSound s wink =
+    every (leb (s .max) 7609
+    ∷ leb (s .allocated) 0xffff_fffe
+    ∷ leb (s .last) 0xffff_ffff_ffff
+    ∷ leb (s .assembler .deadline) (s .last + 100)
+    ∷ leb (s .lock) (s .last + 10000)
+    ∷ leb wink (s .last + 5000)
+    ∷ pick (ltb (s .last) (s .lock)) (isAllocated (s .allocated) (s .locked)) true
+    ∷ pick (eqb (s .assembler .len) 0) true (transacts (s .max) (s .allocated) (s .assembler))
+    ∷ [])

@@ -1,0 +1,214 @@
+// Packets put together into a message, with a timeout: checks 3 to 6 of the scope's device step.
+use crate::MessageAssembler;
+use collect::Added;
+use packet::CtapHidCommand;
+use packet::CtapHidError;
+use packet::Limits;
+use packet::ProcessedPacket;
+ghost use mathlib.Core.Path.{_≡_};
+ghost use Prim.Native.Nat.{_≤_};
+ghost use lib.ListN.{length};
+ghost use Rattle.ctaphid.specs.Receiver.{collect, start, whenIdle, whenOver, whenBusy, receive};
+ghost use Rattle.packet.specs.Reading.{heard};
+ghost use Rattle.hid.specs.Meaning.{none, transactionOf, receiverOf};
+ghost use Rattle.hid.specs.Receiving.{assembling, assembledOf, Adds, Receives};
+
+// What a packet brings about: nothing yet, an error on the packet's channel, or a whole message at the front of the message buffer.
+pub(crate) enum Received {
+    Nothing,
+    Error(u8),
+    Message { cid: u32, cmd: u8, len: usize },
+}
+
+pub(crate) struct Assembled {
+    pub assembler: MessageAssembler,
+    pub received: Received,
+}
+
+// A packet meets the assembler.
+pub(crate) fn parse_packet(
+    assembler: MessageAssembler,
+    max: u32,
+    time: u64,
+    packet: ProcessedPacket,
+    data: &[u8],
+    message: &mut [u8],
+) -> Assembled
+    requires { ⌜ Receives assembler max time (heard packet (now «data»)) (now message) ⌝ }
+    ensures { λ r. ⌜ assembling r (now (message .exit)) ≡ assembledOf (receive max time (receiverOf assembler (now (message .entry))) (heard packet (now («data» .entry)))) (now (message .entry)) ⌝ }
+{
+    if assembler.len == 0 {
+        return when_idle(max, time, packet, data, message);
+    }
+    if assembler.deadline <= time {
+        return when_over(assembler, max, time, packet, data, message);
+    }
+    when_busy(assembler, max, time, packet, data, message)
+}
+
+// Check 4: no transaction.
+fn when_idle(
+    max: u32,
+    time: u64,
+    packet: ProcessedPacket,
+    data: &[u8],
+    message: &mut [u8],
+) -> Assembled
+    requires { ⌜ Receives none max time (heard packet (now «data»)) (now message) ⌝ }
+    ensures { λ r. ⌜ assembling r (now (message .exit)) ≡ assembledOf (whenIdle max time (heard packet (now («data» .entry)))) (now (message .entry)) ⌝ }
+{
+    match packet {
+        ProcessedPacket::InitPacket { cid, cmd, len } => {
+            parse_init_packet(max, time, cid, cmd, len, data, message)
+        }
+        ProcessedPacket::ContinuationPacket { cid: _, seq: _ } => reset(Received::Nothing),
+    }
+}
+
+// Check 3: the transaction's time is over.
+fn when_over(
+    assembler: MessageAssembler,
+    max: u32,
+    time: u64,
+    packet: ProcessedPacket,
+    data: &[u8],
+    message: &mut [u8],
+) -> Assembled
+    requires { ⌜ Receives assembler max time (heard packet (now «data»)) (now message) ⌝ }
+    ensures { λ r. ⌜ assembling r (now (message .exit)) ≡ assembledOf (whenOver max time (transactionOf assembler (now (message .entry))) (heard packet (now («data» .entry)))) (now (message .entry)) ⌝ }
+{
+    match packet {
+        ProcessedPacket::InitPacket { cid, cmd, len } => {
+            parse_init_packet(max, time, cid, cmd, len, data, message)
+        }
+        ProcessedPacket::ContinuationPacket { cid, seq: _ } => {
+            if cid == assembler.cid {
+                reset(Received::Error(CtapHidError::MSG_TIMEOUT))
+            } else {
+                reset(Received::Nothing)
+            }
+        }
+    }
+}
+
+// Check 5: a live transaction.
+fn when_busy(
+    assembler: MessageAssembler,
+    max: u32,
+    time: u64,
+    packet: ProcessedPacket,
+    data: &[u8],
+    message: &mut [u8],
+) -> Assembled
+    requires { ⌜ Receives assembler max time (heard packet (now «data»)) (now message) ⌝ }
+    requires { ⌜ Adds assembler (now message) ⌝ }
+    ensures { λ r. ⌜ assembling r (now (message .exit)) ≡ assembledOf (whenBusy max time (transactionOf assembler (now (message .entry))) (heard packet (now («data» .entry)))) (now (message .entry)) ⌝ }
+{
+    match packet {
+        ProcessedPacket::InitPacket { cid, cmd, len } => {
+            if cid != assembler.cid {
+                busy(assembler)
+            } else if cmd == CtapHidCommand::INIT {
+                parse_init_packet(max, time, cid, cmd, len, data, message)
+            } else {
+                reset(Received::Error(CtapHidError::INVALID_SEQ))
+            }
+        }
+        ProcessedPacket::ContinuationPacket { cid, seq } => {
+            let due = assembler.seq;
+            if cid != assembler.cid {
+                busy(assembler)
+            } else if seq as u16 != due {
+                reset(Received::Error(CtapHidError::INVALID_SEQ))
+            } else {
+                let mut next = assembler;
+                next.deadline = time + Limits::TIMEOUT_MS;
+                next.seq = due + 1;
+                append_payload(next, data, message)
+            }
+        }
+    }
+}
+
+// An initialization packet that nothing stands against.
+fn parse_init_packet(
+    max: u32,
+    time: u64,
+    cid: u32,
+    cmd: u8,
+    len: usize,
+    data: &[u8],
+    message: &mut [u8],
+) -> Assembled
+    requires { ⌜ (max ≤ 7609) × (max ≤ length (now message)) × (time ≤ 0xffff_ffff_ffff) × (cmd ≤ 127) ⌝ }
+    ensures { λ r. ⌜ assembling r (now (message .exit)) ≡ assembledOf (start max time cid cmd len (now («data» .entry))) (now (message .entry)) ⌝ }
+{
+    if len > max as usize {
+        return reset(Received::Error(CtapHidError::INVALID_LEN));
+    }
+    let assembler = MessageAssembler {
+        deadline: time + Limits::TIMEOUT_MS,
+        cid,
+        len: len as u32,
+        taken: 0,
+        cmd: cmd as u16,
+        seq: 0,
+    };
+    append_payload(assembler, data, message)
+}
+
+// Check 6: data is added up to the declared length.
+fn append_payload(assembler: MessageAssembler, data: &[u8], message: &mut [u8]) -> Assembled
+    requires { ⌜ Adds assembler (now message) ⌝ }
+    ensures { λ r. ⌜ assembling r (now (message .exit)) ≡ assembledOf (collect (transactionOf assembler (now (message .entry))) (now («data» .entry))) (now (message .entry)) ⌝ }
+{
+    let taken = assembler.taken as usize;
+    let len = assembler.len as usize;
+    match collect::add_data(message, taken, len, data) {
+        Added::Waiting(n) => {
+            let mut next = assembler;
+            next.taken = n as u32;
+            Assembled {
+                assembler: next,
+                received: Received::Nothing,
+            }
+        }
+        Added::Whole => {
+            let cmd = assembler.cmd;
+            reset(Received::Message {
+                cid: assembler.cid,
+                cmd: cmd as u8,
+                len,
+            })
+        }
+        // never: the lengths stand
+        Added::Refused(_) => reset(Received::Nothing),
+    }
+}
+
+// The transaction is over, or there was none.
+fn reset(received: Received) -> Assembled
+    ensures { λ r. ⌜ r ≡ record { assembler = none; received = received } ⌝ }
+{
+    Assembled {
+        assembler: MessageAssembler {
+            deadline: 0,
+            cid: 0,
+            len: 0,
+            taken: 0,
+            cmd: 0,
+            seq: 0,
+        },
+        received,
+    }
+}
+
+// Another channel's packet: the transaction goes on.
+fn busy(assembler: MessageAssembler) -> Assembled
+    ensures { λ r. ⌜ r ≡ record { assembler = assembler; received = Received.Error 6 } ⌝ }
+{
+    Assembled {
+        assembler,
+        received: Received::Error(CtapHidError::CHANNEL_BUSY),
+    }
+}
