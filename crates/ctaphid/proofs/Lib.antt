@@ -3,3 +3,4 @@ pub mod Packets
 pub mod Commands
 pub mod Splitting
 pub mod Messages
+pub mod Transport

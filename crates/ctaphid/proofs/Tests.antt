@@ -1,6 +1,6 @@
 -- A test in a definition, and the test in the code that led to a `return`: `search tests` puts them together. Assumes nothing.
-use mathlib.Core.Path.{_≡_, refl}
-use mathlib.Core.Bool.{Bool, true, false}
+use mathlib.Core.Path.{_≡_, refl, sym}
+use mathlib.Core.Bool.{Bool, true, false, true≢false}
 use borrow.Author.Tests.{lt-ltb, le-ltb, le-leb, lt-leb, eq-eqb, ne-eqb}
 use Rattle.ctaphid.specs.Choice.{pick}
 
@@ -16,5 +16,22 @@ pub pick-same : {A : Type 0} (test : Bool) (a : A) → pick test a a ≡ a
 unfolding pick
 pick-same true a = refl
 pick-same false a = refl
+
+-- two tests of which both hold
+pub pick-true : (a b : Bool) → pick a b false ≡ true → (a ≡ true) × (b ≡ true)
+unfolding pick
+pick-true true b e = (refl, e)
+pick-true false b e = absurd (true≢false (sym e))
+
+-- what holds of both holds of either; and what holds of each where its test holds
+pub pick-both : {A : Type 0} (P : A → Type 0) (test : Bool) (a b : A) → P a → P b → P (pick test a b)
+unfolding pick
+pick-both P true a b p q = p
+pick-both P false a b p q = q
+
+pub pick-known : {A : Type 0} (P : A → Type 0) (test : Bool) (a b : A) → (test ≡ true → P a) → (test ≡ false → P b) → P (pick test a b)
+unfolding pick
+pick-known P true a b p q = p refl
+pick-known P false a b p q = q refl
 
 pub ruleset tests = (lt-ltb, le-ltb, le-leb, lt-leb, eq-eqb, ne-eqb, yes-pick, no-pick)

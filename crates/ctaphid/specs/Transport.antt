@@ -1,7 +1,7 @@
 -- The transport: channels, lock and the commands that it serves itself (§11.2.3, §11.2.5, §11.2.6, §11.2.9). Checks 1 to 7 of the scope. Assumes nothing.
 use Prim.Native.Nat.{ℕ, _+_, _*_}
 use mathlib.Core.List.{List, [], _∷_, _++_}
-use mathlib.Core.Bool.{Bool, true, false, not, _&&_, _||_}
+use mathlib.Core.Bool.{Bool, true, false, not}
 use lib.ListN.{length, getD}
 use lib.Dec.{ltb, leb, eqb}
 use Rattle.ctaphid.specs.Choice.{pick}
@@ -64,8 +64,8 @@ error c e = reply c ERROR (code e ∷ [])
 abbrev pub broadcast : ℕ
 broadcast = 0xffff_ffff
 
-abbrev pub isAllocated : (allocated channel : ℕ) → Bool
-isAllocated allocated c = leb 1 c && leb c allocated
+unfoldable pub isAllocated : (allocated channel : ℕ) → Bool
+isAllocated allocated c = pick (leb 1 c) (leb c allocated) false
 
 -- §11.2.3: the broadcast channel is there to allocate others, by INIT
 unfoldable pub isValid : (allocated : ℕ) → Packet → Bool

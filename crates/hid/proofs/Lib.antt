@@ -1,1 +1,3 @@
 pub mod Receiving
+pub mod Serving
+pub mod Sound

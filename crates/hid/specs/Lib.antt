@@ -1,3 +1,4 @@
 pub mod Meaning
 pub mod Soundness
 pub mod Receiving
+pub mod Serving

@@ -2,12 +2,11 @@
 use Prim.Native.Nat.{ℕ, _+_, _*_, _≤_, _<_}
 use mathlib.Core.Path.{_≡_}
 use mathlib.Core.List.{List, [], _∷_}
-use mathlib.Core.Bool.{Bool, true, false, not, _&&_, _||_}
+use mathlib.Core.Bool.{Bool, true, false}
 use mathlib.Core.Logic.{_⊎_}
 use lib.Dec.{ltb, leb, eqb}
 use Rattle.ctaphid.specs.Choice.{pick}
-use Rattle.ctaphid.specs.Limits.{largest, lastTime}
-use Rattle.ctaphid.specs.Transport.{broadcast, isAllocated}
+use Rattle.ctaphid.specs.Transport.{isAllocated}
 use Rattle.hid.specs.declared.MessageAssembler.{MessageAssembler}
 use Rattle.hid.specs.declared.CtapHid.{CtapHid}
 
@@ -39,10 +38,11 @@ pub record Sound (s : CtapHid) (until : ℕ) : Type 0 where
 -- whether all of these hold
 abbrev pub every : List Bool → Bool
 every [] = true
-every (test ∷ rest) = pick test (every rest) false
+every (test ∷ []) = test
+every (test ∷ (other ∷ rest)) = pick test (every (other ∷ rest)) false
 
 unfoldable pub isOnChannel : (allocated channel command : ℕ) → Bool
-isOnChannel allocated c cmd = pick (isAllocated allocated c) true (every (eqb c 0xffff_ffff ∷ eqb cmd 6 ∷ []))
+isOnChannel allocated c cmd = pick (isAllocated allocated c) true (pick (eqb c 0xffff_ffff) (eqb cmd 6) false)
 
 unfoldable pub transacts : (max allocated : ℕ) → MessageAssembler → Bool
 transacts max allocated a =
@@ -54,14 +54,25 @@ transacts max allocated a =
     ∷ isOnChannel allocated (a .cid) (a .cmd)
     ∷ [])
 
+unfoldable pub isAtRest : (max allocated : ℕ) → MessageAssembler → Bool
+isAtRest max allocated a = pick (eqb (a .len) 0) true (transacts max allocated a)
+
+unfoldable pub isHeld : CtapHid → Bool
+isHeld s = pick (ltb (s .last) (s .lock)) (isAllocated (s .allocated) (s .locked)) true
+
+unfoldable pub isTimely : CtapHid → (wink : ℕ) → Bool
+isTimely s wink =
+    every (leb (s .assembler .deadline) (s .last + 100)
+    ∷ leb (s .lock) (s .last + 10000)
+    ∷ leb wink (s .last + 5000)
+    ∷ isHeld s
+    ∷ [])
+
 unfoldable pub isSound : CtapHid → (wink : ℕ) → Bool
 isSound s wink =
     every (leb (s .max) 7609
     ∷ leb (s .allocated) 0xffff_fffe
     ∷ leb (s .last) 0xffff_ffff_ffff
-    ∷ leb (s .assembler .deadline) (s .last + 100)
-    ∷ leb (s .lock) (s .last + 10000)
-    ∷ leb wink (s .last + 5000)
-    ∷ pick (ltb (s .last) (s .lock)) (isAllocated (s .allocated) (s .locked)) true
-    ∷ pick (eqb (s .assembler .len) 0) true (transacts (s .max) (s .allocated) (s .assembler))
+    ∷ isTimely s wink
+    ∷ isAtRest (s .max) (s .allocated) (s .assembler)
     ∷ [])

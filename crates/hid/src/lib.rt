@@ -1,8 +1,10 @@
 // The device's side of CTAPHID, after OpenSK's hid/receive.rs, the rest of hid/mod.rs, and main_hid.rs.
 
+mod channels;
 mod receive;
+mod soundness;
 
-
+pub use channels::echo;
 use packet::CtapHidCommand;
 ghost use mathlib.Core.Path.{_≡_};
 
@@ -42,9 +44,27 @@ pub enum Answer {
     Refused(u8),
     Nothing,
     // A message that is handed out, in the message buffer.
-    Message { cid: u32, cmd: CtapHidCommand, len: usize },
+    Message {
+        cid: u32,
+        cmd: CtapHidCommand,
+        len: usize,
+    },
     // A reply whose payload is the request's, in the message buffer.
-    Echo { cid: u32, cmd: CtapHidCommand, len: usize },
+    Echo {
+        cid: u32,
+        cmd: CtapHidCommand,
+        len: usize,
+    },
     // A reply in the short reply buffer.
-    Reply { cid: u32, cmd: CtapHidCommand, len: usize },
+    Reply {
+        cid: u32,
+        cmd: CtapHidCommand,
+        len: usize,
+    },
+}
+
+// The transport after a step, and the answer.
+pub struct Stepped {
+    pub hid: CtapHid,
+    pub answer: Answer,
 }

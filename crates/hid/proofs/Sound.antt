@@ -1,0 +1,135 @@
+-- The test for soundness and the facts agree. Assumes nothing.
+use Prim.Native.Nat.{ℕ, _+_, _*_, _≤_, _<_}
+use native.Mathlib.Omega.{arith}
+use native.Mathlib.Decide.{decLt, ℕ-discrete}
+use mathlib.Core.Path.{_≡_, refl, sym, _∙_}
+use mathlib.Core.Bool.{Bool, true, false}
+use mathlib.Core.Logic.{_⊎_, inl, inr}
+use borrow.Author.Tests.{leb-true, ltb-true, eqb-true, ltb-false, le-leb, lt-ltb, le-ltb, eq-eqb, ne-eqb}
+use lib.Dec.{leb, ltb, eqb}
+use Rattle.ctaphid.specs.Choice.{pick}
+use Rattle.ctaphid.specs.Transport.{isAllocated}
+use Rattle.ctaphid.proofs.Tests.{pick-true, pick-known}
+use Rattle.hid.specs.declared.MessageAssembler.{MessageAssembler}
+use Rattle.hid.specs.declared.CtapHid.{CtapHid}
+use Rattle.hid.specs.Soundness.{Allocated, Transacts, Sound, isOnChannel, transacts, isAtRest, isHeld, isTimely, isSound}
+
+-- a call whose answer was tested
+module _ (n c : ℕ) (b : Bool) (e : b ≡ isAllocated n c) where
+  pub allocated-yes : b ≡ true → isAllocated n c ≡ true
+  allocated-yes t = sym e ∙ t
+
+  pub allocated-no : b ≡ false → isAllocated n c ≡ false
+  allocated-no t = sym e ∙ t
+
+module _ (s : CtapHid) (wink : ℕ) (b : Bool) (e : b ≡ isTimely s wink) where
+  pub timely-yes : b ≡ true → isTimely s wink ≡ true
+  timely-yes t = sym e ∙ t
+
+  pub timely-no : b ≡ false → isTimely s wink ≡ false
+  timely-no t = sym e ∙ t
+
+-- ---- from the test to the facts
+pub allocated-is : (n c : ℕ) → isAllocated n c ≡ true → Allocated n c
+unfolding isAllocated
+allocated-is n c e = let p = pick-true (leb 1 c) (leb c n) e in (leb-true 1 c (p .0), leb-true c n (p .1))
+
+on-channel-is : (n c cmd : ℕ) → isOnChannel n c cmd ≡ true → Allocated n c ⊎ ((c ≡ 0xffff_ffff) × (cmd ≡ 6))
+unfolding isOnChannel
+on-channel-is n c cmd =
+    pick-known (λ (b : Bool). b ≡ true → Allocated n c ⊎ ((c ≡ 0xffff_ffff) × (cmd ≡ 6))) (isAllocated n c) _ _
+    (λ e h. inl (allocated-is n c e))
+    (λ e h. let p = pick-true (eqb c 0xffff_ffff) (eqb cmd 6) h in inr (eqb-true c 0xffff_ffff (p .0), eqb-true cmd 6 (p .1)))
+
+transacts-is : (max n : ℕ) (a : MessageAssembler) → transacts max n a ≡ true → Transacts max n a
+unfolding transacts
+transacts-is max n a e =
+    let p₁ = pick-true (leb (a .cmd) 127) _ e in
+    let p₂ = pick-true (ltb 57 (a .len)) _ (p₁ .1) in
+    let p₃ = pick-true (leb (a .len) max) _ (p₂ .1) in
+    let p₄ = pick-true (ltb (57 + 59 * a .seq) (a .len)) _ (p₃ .1) in
+    let p₅ = pick-true (eqb (57 + 59 * a .seq) (a .taken)) _ (p₄ .1) in
+    record {
+      command = leb-true (a .cmd) 127 (p₁ .0);
+      long = ltb-true 57 (a .len) (p₂ .0);
+      most = leb-true (a .len) max (p₃ .0);
+      below = ltb-true (57 + 59 * a .seq) (a .len) (p₄ .0);
+      bytes = eqb-true (57 + 59 * a .seq) (a .taken) (p₅ .0);
+      channel = on-channel-is n (a .cid) (a .cmd) (p₅ .1);
+    }
+
+at-rest-is : (max n : ℕ) (a : MessageAssembler) → isAtRest max n a ≡ true → (a .len ≡ 0 → ⊥) → Transacts max n a
+unfolding isAtRest
+at-rest-is max n a =
+    pick-known (λ (b : Bool). b ≡ true → (a .len ≡ 0 → ⊥) → Transacts max n a) (eqb (a .len) 0) _ _
+    (λ e h z. absurd (z (eqb-true (a .len) 0 e)))
+    (λ e h z. transacts-is max n a h)
+
+held-is : (s : CtapHid) → isHeld s ≡ true → s .last < s .lock → Allocated (s .allocated) (s .locked)
+unfolding isHeld
+held-is s =
+    pick-known (λ (b : Bool). b ≡ true → s .last < s .lock → Allocated (s .allocated) (s .locked)) (ltb (s .last) (s .lock)) _ _
+    (λ e h l. allocated-is (s .allocated) (s .locked) h)
+    (λ e h l. absurd (omega (arith, ltb-false (s .last) (s .lock) e)))
+
+pub sound-is : (s : CtapHid) (wink : ℕ) → isSound s wink ≡ true → Sound s wink
+unfolding isSound isTimely
+sound-is s wink e =
+    let p₁ = pick-true (leb (s .max) 7609) _ e in
+    let p₂ = pick-true (leb (s .allocated) 0xffff_fffe) _ (p₁ .1) in
+    let p₃ = pick-true (leb (s .last) 0xffff_ffff_ffff) _ (p₂ .1) in
+    let p₄ = pick-true (isTimely s wink) _ (p₃ .1) in
+    let t₁ = pick-true (leb (s .assembler .deadline) (s .last + 100)) _ (p₄ .0) in
+    let t₂ = pick-true (leb (s .lock) (s .last + 10000)) _ (t₁ .1) in
+    let t₃ = pick-true (leb wink (s .last + 5000)) _ (t₂ .1) in
+    record {
+      maximum = leb-true (s .max) 7609 (p₁ .0);
+      count = leb-true (s .allocated) 0xffff_fffe (p₂ .0);
+      last = leb-true (s .last) 0xffff_ffff_ffff (p₃ .0);
+      deadline = leb-true (s .assembler .deadline) (s .last + 100) (t₁ .0);
+      lock = leb-true (s .lock) (s .last + 10000) (t₂ .0);
+      wink = leb-true wink (s .last + 5000) (t₃ .0);
+      holder = held-is s (t₃ .1);
+      transaction = at-rest-is (s .max) (s .allocated) (s .assembler) (p₄ .1);
+    }
+
+-- ---- and back
+pub is-allocated : (n c : ℕ) → Allocated n c → isAllocated n c ≡ true
+unfolding isAllocated pick
+is-allocated n c a = simp (le-leb 1 c (a .0), le-leb c n (a .1))
+
+is-on-channel : (n c cmd : ℕ) → Allocated n c ⊎ ((c ≡ 0xffff_ffff) × (cmd ≡ 6)) → isOnChannel n c cmd ≡ true
+unfolding isOnChannel pick
+is-on-channel n c cmd (inl a) = simp (is-allocated n c a)
+is-on-channel n c cmd (inr b) = go (isAllocated n c)
+  where
+    go : (test : Bool) → pick test true (pick (eqb c 0xffff_ffff) (eqb cmd 6) false) ≡ true
+    go true = refl
+    go false = simp (eq-eqb _ _ (b .0), eq-eqb _ _ (b .1))
+
+is-transacting : (max n : ℕ) (a : MessageAssembler) → Transacts max n a → transacts max n a ≡ true
+unfolding transacts pick
+is-transacting max n a t =
+    simp (le-leb _ _ (t .command), lt-ltb 57 (a .len) (t .long), le-leb (a .len) max (t .most), lt-ltb (57 + 59 * a .seq) (a .len) (t .below), eq-eqb (57 + 59 * a .seq) (a .taken) (t .bytes)) (is-on-channel n (a .cid) (a .cmd) (t .channel))
+
+is-at-rest : (max n : ℕ) (a : MessageAssembler) → ((a .len ≡ 0 → ⊥) → Transacts max n a) → isAtRest max n a ≡ true
+unfolding isAtRest pick
+is-at-rest max n a t = by-len (ℕ-discrete (a .len) 0)
+  where
+    by-len : Dec (a .len ≡ 0) → isAtRest max n a ≡ true
+    by-len (yes z) = simp (eq-eqb _ _ z)
+    by-len (no z) = simp (ne-eqb _ _ z) (is-transacting max n a (t z))
+
+is-held : (s : CtapHid) → (s .last < s .lock → Allocated (s .allocated) (s .locked)) → isHeld s ≡ true
+unfolding isHeld pick
+is-held s a = by-time (decLt (s .last) (s .lock))
+  where
+    by-time : Dec (s .last < s .lock) → isHeld s ≡ true
+    by-time (yes l) = simp (lt-ltb _ _ l) (is-allocated (s .allocated) (s .locked) (a l))
+    by-time (no l) = simp (le-ltb (s .last) (s .lock) (omega arith))
+
+pub is-sound : (s : CtapHid) (wink : ℕ) → Sound s wink → isSound s wink ≡ true
+unfolding isSound isTimely pick
+is-sound s wink t =
+    simp (le-leb (s .max) 7609 (t .maximum), le-leb _ _ (t .count), le-leb _ _ (t .last), le-leb _ _ (t .deadline), le-leb _ _ (t .lock), le-leb _ _ (t .wink), is-held s (t .holder))
+    (is-at-rest (s .max) (s .allocated) (s .assembler) (t .transaction))

@@ -1,0 +1,42 @@
+-- `not_valid` meets its contract. Assumes nothing.
+use Rattle.hid.proofs.Serving.{not-valid-first, not-valid-later}
+use borrow.Author.Needs.{needs}
+use Rattle.hid.proofs.channels.not_valid.Statement.{statement}
+use Rattle.hid.proofs.channels.not_valid.Tie as tie
+use Rattle.hid.proofs.channels.not_valid.Reads as reads
+use Rattle.hid.proofs.channels.not_valid.Lts as lts
+use Rattle.hid.proofs.channels.error_message.Reads as error-message-reads
+use Rattle.hid.proofs.channels.no_message.Reads as no-message-reads
+
+enum-known-packet : tie.Need-enum-known-packet
+enum-known-packet c = search needs
+
+error-message-requires : tie.Need-error-message-requires
+error-message-requires c κs = search needs
+
+enum-told : tie.Need-enum-told
+enum-told c = search needs
+
+no-message-requires : tie.Need-no-message-requires
+no-message-requires c κs = search needs
+
+same-length : tie.Need-same-length
+same-length c = search needs
+
+returns : tie.Need-returns
+returns c = search (not-valid-first, not-valid-later)
+
+returns-2 : tie.Need-returns-2
+returns-2 c = search (not-valid-first, not-valid-later)
+
+pub not-valid-spec : {M : Type 1} → statement M
+not-valid-spec =
+    tie.close
+    (tie.spec
+    enum-known-packet
+    error-message-requires
+    enum-told
+    no-message-requires
+    same-length
+    returns
+    returns-2)

@@ -1,0 +1,100 @@
+-- What a step leaves, from what the standard's transport does. Assumes nothing.
+use Prim.Native.Nat.{ℕ, _≤_}
+use mathlib.Core.Path.{_≡_}
+use mathlib.Core.List.{List, [], _∷_}
+use mathlib.Core.Bool.{Bool, not}
+use lib.ListN.{length}
+use lib.Dec.{ltb, leb, eqb}
+use Rattle.ctaphid.specs.Choice.{pick, refusing}
+use Rattle.ctaphid.specs.Limits.{packetSize, largest, lastTime}
+use Rattle.ctaphid.specs.Packets.{Packet, read}
+use Rattle.ctaphid.specs.Receiver.{channelOf, receive}
+use Rattle.ctaphid.specs.Transport as standard
+use Rattle.ctaphid.specs.Transport.{Transport, Next, isValid, isShut, hear}
+use Rattle.packet.specs.declared.command.CtapHidCommand.the-variants.{Ping}
+use Rattle.hid.specs.declared.CtapHid.{CtapHid}
+use Rattle.hid.specs.declared.Answer.{Answer}
+use Rattle.hid.specs.declared.Answer.the-variants.{Refused, Echo}
+use Rattle.hid.specs.declared.Stepped.{Stepped}
+use Rattle.hid.specs.Meaning.{none, receiverOf, transportOf, stateOf, answerOf, replied}
+use Rattle.hid.specs.Receiving.{buffered}
+use Rattle.hid.specs.Soundness.{isSound}
+
+-- refusal 8: a PING to be echoed has over 7,609 bytes
+unfoldable pub echoOf : (cid len : ℕ) → Answer
+echoOf cid len = refusing Refused ((ltb largest len, 8) ∷ []) (Echo cid Ping len)
+
+-- ---- over the short reply buffer alone
+
+pub record Serving : Type 0 where
+  pub stepped : Stepped
+  pub reply : List ℕ
+
+abbrev pub serving : Stepped → List ℕ → Serving
+serving s r = record { stepped = s; reply = r }
+
+unfoldable pub servedOf : CtapHid → (time : ℕ) → Next Transport → (short : List ℕ) → Serving
+servedOf s time n r =
+    serving (record { hid = stateOf s time (n .state); answer = answerOf (n .answer) }) (replied (n .answer) r)
+
+-- an answer that leaves the state as it is
+abbrev pub answering : CtapHid → standard.Answer → (short : List ℕ) → Serving
+answering s a r = serving (record { hid = s; answer = answerOf a }) (replied a r)
+
+-- s with another lock
+abbrev pub locking : CtapHid → (holder until : ℕ) → CtapHid
+locking s holder until =
+    record { assembler = s .assembler; lock = until; last = s .last; allocated = s .allocated; locked = holder; max = s .max; u2f = s .u2f }
+
+-- s with another count of channels
+abbrev pub allocating : CtapHid → (allocated : ℕ) → CtapHid
+allocating s n =
+    record { assembler = s .assembler; lock = s .lock; last = s .last; allocated = n; locked = s .locked; max = s .max; u2f = s .u2f }
+
+-- what serving a whole message asks: no transaction is left, the message is in the buffer, and a reply has room
+pub record Serves (s : CtapHid) (len : ℕ) (m r : List ℕ) : Type 0 where
+  pub idle : s .assembler ≡ none
+  pub count : s .allocated ≤ 0xffff_fffe
+  pub early : s .last ≤ 0xffff_ffff_ffff
+  pub room : len ≤ length m
+  pub most : len ≤ 7609
+  pub short : 17 ≤ length r
+
+-- ---- over both buffers
+
+-- all that a call leaves: what it returns, and both buffers
+pub record Stepping : Type 0 where
+  pub stepped : Stepped
+  pub message : List ℕ
+  pub reply : List ℕ
+
+abbrev pub stepping : Stepped → List ℕ → List ℕ → Stepping
+stepping s m r = record { stepped = s; message = m; reply = r }
+
+abbrev pub steppingOf : Serving → (message : List ℕ) → Stepping
+steppingOf v m = stepping (v .stepped) m (v .reply)
+
+-- the message buffer after a packet: as it was, unless the packet reaches the receiver
+unfoldable pub messageAfter : CtapHid → (time : ℕ) → (disabled : Bool) → Packet → List ℕ → List ℕ
+messageAfter s time disabled p m =
+    pick (isValid (s .allocated) p)
+    (pick (isShut (transportOf s m .lock) time disabled (channelOf p)) m (buffered (receive (s .max) time (receiverOf (s .assembler) m) p) m))
+    m
+
+unfoldable pub heardOf : CtapHid → (time : ℕ) → (disabled : Bool) → Packet → (message short : List ℕ) → Stepping
+heardOf s time disabled p m r =
+    steppingOf (servedOf s time (hear (transportOf s m) time disabled p) r) (messageAfter s time disabled p m)
+
+-- checks 1 to 7 behind the refusals, in the scope's order: 1, the packet isn't 64 bytes; 2, a buffer is short; 3, the state is not sound; 4, the time is
+-- too late or before the last. A refused call leaves all as it came
+unfoldable pub stepOf : CtapHid → (time : ℕ) → (disabled : Bool) → (packet message short : List ℕ) → Stepping
+stepOf s time disabled p m r =
+    refusing (λ number. stepping (record { hid = s; answer = Refused number }) m r)
+    ((not (eqb (length p) packetSize), 1)
+    ∷ (ltb (length m) (s .max), 2)
+    ∷ (ltb (length r) 17, 2)
+    ∷ (not (isSound s 0), 3)
+    ∷ (ltb lastTime time, 4)
+    ∷ (ltb time (s .last), 4)
+    ∷ [])
+    (heardOf s time disabled (read p) m r)
