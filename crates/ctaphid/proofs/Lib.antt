@@ -4,3 +4,4 @@ pub mod Commands
 pub mod Splitting
 pub mod Messages
 pub mod Transport
+pub mod Invariant
