@@ -2,18 +2,18 @@
 use Prim.Native.Nat.{ℕ, _+_, _*_, _≤_, _<_}
 use native.Mathlib.Omega.{arith}
 use mathlib.Core.Path.{_≡_, refl, sym, subst, ap, _∙_}
-use mathlib.Core.List.{List, [], _++_}
-use mathlib.Core.Bool.{Bool, true, false}
+use mathlib.Core.List.{List, [], _∷_, _++_}
+use mathlib.Core.Bool.{Bool, true, false, true≢false}
 use mathlib.Core.Logic.{_⊎_, inl, inr, ⊎-elim}
-use borrow.Author.Tests.{eqb-true, eqb-false, ltb-true, ltb-false, leb-true, leb-false, lt-ltb, ne-eqb}
+use borrow.Author.Tests.{eqb-true, eqb-false, ltb-true, ltb-false, leb-true, lt-ltb, ne-eqb}
 use lib.Dec.{ltb, leb, eqb}
 use lib.ListN.{length, take, getD, length-append}
 use lib.Seq.{length-take-le}
 use Rattle.ctaphid.specs.Choice.{pick}
 use Rattle.ctaphid.specs.Packets.{Packet, initialization, continuation, Formed}
-use Rattle.ctaphid.specs.Commands.{Command, MSG, CBOR, INIT, PING, CANCEL, ERROR, KEEPALIVE, WINK, LOCK, number, commandOf}
-use Rattle.ctaphid.specs.Receiver.{Transaction, Receiver, idle, busy, Reception, silent, fault, whole, Turn, turn, channelOf, collect, start, whenIdle, whenOver, onOwn, whenBusy, receive}
-use Rattle.ctaphid.specs.Transport.{Settings, Lock, free, Transport, fresh, Event, Next, next, broadcast, isAllocated, isValid, isLocked, isLockedAgainst, isShut, nextChannel, onInit, lockFor, onLock, dispatch, settle, settled, serve, hear, withReceiver, withAllocated, withLock}
+use Rattle.ctaphid.specs.Commands.{Command, MSG, CBOR, INIT, PING, CANCEL, ERROR, KEEPALIVE, WINK, LOCK, number, among, commandOf, commands}
+use Rattle.ctaphid.specs.Receiver.{Transaction, Receiver, idle, busy, Reception, silent, fault, whole, Turn, channelOf, collect, start, whenIdle, whenOver, onOwn, whenBusy, receive}
+use Rattle.ctaphid.specs.Transport.{Settings, Lock, Transport, fresh, Next, broadcast, isAllocated, isValid, isLockedAgainst, isShut, nextChannel, onInit, lockFor, onLock, dispatch, settle, serve, hear, withReceiver, withAllocated, withLock}
 use Rattle.ctaphid.proofs.Tests.{pick-true, pick-both, pick-known}
 
 -- a channel that is allocated, or the broadcast channel for INIT
@@ -63,12 +63,12 @@ holds-later d time time′ h k =
 -- ---- the receiver
 
 -- what a packet on an allowed channel may begin
-abbrev Asks : (allocated : ℕ) → Packet → Type 0
+abbrev pub Asks : (allocated : ℕ) → Packet → Type 0
 Asks n (initialization c cmd declared field) = Allowed n c cmd
 Asks n (continuation c k field) = Unit {0}
 
 -- a message that is whole is no longer than the maximum, of an allowed channel, and no transaction is left
-abbrev Tells : (max allocated : ℕ) → Receiver → Reception → Type 0
+abbrev pub Tells : (max allocated : ℕ) → Receiver → Reception → Type 0
 Tells max n r silent = Unit {0}
 Tells max n r (fault e) = Unit {0}
 Tells max n r (whole c cmd payload) = (r ≡ idle) × (length payload ≤ max) × Allowed n c cmd
@@ -129,3 +129,172 @@ module _ (max n time : ℕ) where
   unfolding receive
   turns idle p k f a = turns-idle p f a
   turns (busy t) p k f a = either (leb (t .deadline) time) _ _ (turns-over t p f a) (turns-busy t p k f a)
+
+-- ---- check 1, as a fact
+
+pub asks-valid : (n : ℕ) (p : Packet) → isValid n p ≡ true → Asks n p
+unfolding isValid isAllocated
+asks-valid n (initialization c cmd declared field) =
+    pick-known (λ (x : Bool). x ≡ true → Allowed n c cmd) (eqb c broadcast) _ _
+    (λ e h. inr (eqb-true c broadcast e, eqb-true cmd 6 h))
+    (λ e h. let k : (leb 1 c ≡ true) × (leb c n ≡ true) = pick-true (leb 1 c) (leb c n) h in inl (leb-true 1 c (k .0), leb-true c n (k .1)))
+asks-valid n (continuation c k field) = λ e. tt
+
+pub turns-valid : (d : Transport) (time : ℕ) (p : Packet) → Holds d time → Formed p → isValid (d .allocated) p ≡ true → Turns (d .settings .maximum) (d .allocated) time (receive (d .settings .maximum) time (d .receiver) p)
+turns-valid d time p k f v = turns (d .settings .maximum) (d .allocated) time (d .receiver) p (k .receiver) f (asks-valid (d .allocated) p v)
+
+-- ---- a message that is whole is of the channel of the packet that made it so
+
+abbrev pub IsOf : (channel : ℕ) → Reception → Type 0
+IsOf c silent = Unit {0}
+IsOf c (fault e) = Unit {0}
+IsOf c (whole own cmd payload) = own ≡ c
+
+module _ (max time : ℕ) where
+  own-collect : (c : ℕ) (t : Transaction) (field : List ℕ) → t .channel ≡ c → IsOf c (collect t field .reception)
+  unfolding collect
+  own-collect c t field e = pick-both (λ (x : Turn). IsOf c (x .reception)) (ltb (length (t .collected ++ field)) (t .declared)) _ _ tt e
+
+  own-start : (c cmd declared : ℕ) (field : List ℕ) → IsOf c (start max time c cmd declared field .reception)
+  unfolding start
+  own-start c cmd declared field = pick-both (λ (x : Turn). IsOf c (x .reception)) (ltb max declared) _ _ tt (own-collect c _ field refl)
+
+  own-idle : (p : Packet) → IsOf (channelOf p) (whenIdle max time p .reception)
+  unfolding whenIdle
+  own-idle (initialization c cmd declared field) = own-start c cmd declared field
+  own-idle (continuation c k field) = tt
+
+  own-over : (t : Transaction) (p : Packet) → IsOf (channelOf p) (whenOver max time t p .reception)
+  unfolding whenOver
+  own-over t (initialization c cmd declared field) = own-idle (initialization c cmd declared field)
+  own-over t (continuation c k field) = pick-both (λ (x : Turn). IsOf c (x .reception)) (eqb c (t .channel)) _ _ tt (own-idle (continuation c k field))
+
+  own-own : (t : Transaction) (p : Packet) → channelOf p ≡ t .channel → IsOf (channelOf p) (onOwn max time t p .reception)
+  unfolding onOwn
+  own-own t (initialization c cmd declared field) e = pick-both (λ (x : Turn). IsOf c (x .reception)) (eqb cmd (number INIT)) _ _ (own-start c cmd declared field) tt
+  own-own t (continuation c k field) e = pick-both (λ (x : Turn). IsOf c (x .reception)) (eqb k (t .due)) _ _ (own-collect c _ field (sym e)) tt
+
+  own-busy : (t : Transaction) (p : Packet) → IsOf (channelOf p) (whenBusy max time t p .reception)
+  unfolding whenBusy
+  own-busy t p =
+      pick-known (λ (x : Turn). IsOf (channelOf p) (x .reception)) (eqb (channelOf p) (t .channel)) _ _ (λ e. own-own t p (eqb-true (channelOf p) (t .channel) e)) (λ e. tt)
+
+  pub own : (r : Receiver) (p : Packet) → IsOf (channelOf p) (receive max time r p .reception)
+  unfolding receive
+  own idle p = own-idle p
+  own (busy t) p = pick-both (λ (x : Turn). IsOf (channelOf p) (x .reception)) (leb (t .deadline) time) _ _ (own-over t p) (own-busy t p)
+
+-- ---- what a whole message alters: by INIT the count of channels, by LOCK the lock
+
+-- what reads as LOCK is LOCK's number
+among-lock : (cs : List Command) (n : ℕ) → among cs n ≡ LOCK → n ≡ 4
+unfolding among
+among-lock [] n = λ e. let z : _≡_ {A = ℕ} 63 4 = ap number e in absurd (omega arith)
+among-lock (c ∷ rest) n =
+    pick-known (λ (x : Command). x ≡ LOCK → n ≡ 4) (eqb n (number c)) _ _ (λ e h. eqb-true n (number c) e ∙ ap number h) (λ e. among-lock rest n)
+
+-- what holds of a transport is kept, where those two keep it
+module _ (P : Transport → Type 0) (d : Transport) (time c : ℕ) (payload : List ℕ) (same : P d) where
+  keeps-init : (c ≡ broadcast → P (withAllocated d (nextChannel (d .allocated)))) → P (onInit d c payload .state)
+  unfolding onInit
+  keeps-init new =
+      pick-both (λ (x : Next Transport). P (x .state)) (eqb (length payload) 8) _ _
+      (pick-known (λ (x : Next Transport). P (x .state)) (eqb c broadcast) _ _ (λ e. new (eqb-true c broadcast e)) (λ e. same))
+      same
+
+  keeps-lock : (getD payload 0 0 ≤ 10 → P (withLock d (lockFor time c (getD payload 0 0)))) → P (onLock d time c payload .state)
+  unfolding onLock
+  keeps-lock new =
+      pick-both (λ (x : Next Transport). P (x .state)) (eqb (length payload) 1) _ _
+      (pick-known (λ (x : Next Transport). P (x .state)) (ltb 10 (getD payload 0 0)) _ _ (λ e. same) (λ e. new (ltb-false 10 (getD payload 0 0) e)))
+      same
+
+  keeps-dispatch : (x : Command) → (c ≡ broadcast → P (withAllocated d (nextChannel (d .allocated)))) → (x ≡ LOCK → getD payload 0 0 ≤ 10 → P (withLock d (lockFor time c (getD payload 0 0)))) → P (dispatch d time c x payload .state)
+  unfolding dispatch
+  keeps-dispatch MSG init lock = same
+  keeps-dispatch CBOR init lock = same
+  keeps-dispatch INIT init lock = keeps-init init
+  keeps-dispatch PING init lock = same
+  keeps-dispatch CANCEL init lock = same
+  keeps-dispatch ERROR init lock = same
+  keeps-dispatch KEEPALIVE init lock = same
+  keeps-dispatch WINK init lock = same
+  keeps-dispatch LOCK init lock = keeps-lock (lock refl)
+
+keeps-hear : (P : Transport → Type 0) (d : Transport) (time : ℕ) (disabled : Bool) (p : Packet) → P d → (isValid (d .allocated) p ≡ true → isShut (d .lock) time disabled (channelOf p) ≡ false → P (serve d time p .state)) → P (hear d time disabled p .state)
+unfolding hear
+keeps-hear P d time disabled p same served =
+    pick-known (λ (x : Next Transport). P (x .state)) (isValid (d .allocated) p) _ _
+    (λ v. pick-known (λ (x : Next Transport). P (x .state)) (isShut (d .lock) time disabled (channelOf p)) _ _ (λ s. same) (λ s. served v s))
+    (λ v. same)
+
+-- ---- settings never alter
+
+same-settle : (d : Transport) (time c : ℕ) (b : Reception) → settle d time c b .state .settings ≡ d .settings
+unfolding settle
+same-settle d time c silent = refl
+same-settle d time c (fault e) = refl
+same-settle d time c (whole own cmd payload) = keeps-dispatch (λ (x : Transport). x .settings ≡ d .settings) d time own payload refl (commandOf cmd) (λ e. refl) (λ e h. refl)
+
+pub same-settings : (d : Transport) (time : ℕ) (disabled : Bool) (p : Packet) → hear d time disabled p .state .settings ≡ d .settings
+same-settings d time disabled p =
+    keeps-hear (λ (x : Transport). x .settings ≡ d .settings) d time disabled p refl
+    (λ v s. let t : Turn = receive (d .settings .maximum) time (d .receiver) p in same-settle (withReceiver d (t .receiver)) time (channelOf p) (t .reception))
+
+-- ---- a packet
+
+-- check 2, as a fact
+not-against : (l : Lock) (time : ℕ) (disabled : Bool) (c : ℕ) → isShut l time disabled c ≡ false → isLockedAgainst l c time ≡ false
+unfolding isShut
+not-against l time disabled c =
+    pick-known (λ (x : Bool). x ≡ false → isLockedAgainst l c time ≡ false) disabled _ _ (λ e h. absurd (true≢false h)) (λ e h. h)
+
+-- a lock that runs and is not against a channel is that channel's
+runs-own : (l : Lock) (time c : ℕ) → isLockedAgainst l c time ≡ false → time < l .until → (l .holder ≡ c → ⊥) → ⊥
+unfolding isLockedAgainst pick
+runs-own l time c r h other = true≢false (simp (lt-ltb time (l .until) h, ne-eqb (l .holder) c other) at r)
+
+next-small : (n : ℕ) → n ≤ 0xffff_fffe → nextChannel n ≤ 0xffff_fffe
+unfolding nextChannel
+next-small n h =
+    pick-known (λ (x : ℕ). x ≤ 0xffff_fffe) (eqb n 0xffff_fffe) _ _ (λ e. omega arith)
+    (λ e. let f : n ≡ 0xffff_fffe → ⊥ = eqb-false n 0xffff_fffe e in omega arith)
+
+module _ (d : Transport) (time c : ℕ) (k : Holds d time) where
+  -- the count alters only where no lock runs and no transaction is left
+  holds-init : d .receiver ≡ idle → isLockedAgainst (d .lock) c time ≡ false → c ≡ broadcast → Holds (withAllocated d (nextChannel (d .allocated))) time
+  holds-init i r e =
+      record {
+        count = next-small (d .allocated) (k .count);
+        lock = k .lock;
+        holder = λ h.
+            let a : Allocated (d .allocated) (d .lock .holder) = k .holder h in
+            absurd (runs-own (d .lock) time c r h (λ q. omega (arith, a .1, k .count)));
+        receiver = subst (λ (x : Receiver). Receives (d .settings .maximum) (nextChannel (d .allocated)) time x) (sym i) tt;
+      }
+
+  holds-lock : (seconds : ℕ) → Allocated (d .allocated) c → seconds ≤ 10 → Holds (withLock d (lockFor time c seconds)) time
+  unfolding lockFor
+  holds-lock seconds a h =
+      pick-both (λ (l : Lock). Holds (withLock d l) time) (eqb seconds 0) _ _
+      (record { count = k .count; lock = omega arith; holder = λ l. absurd (omega arith); receiver = k .receiver })
+      (record { count = k .count; lock = omega arith; holder = λ l. a; receiver = k .receiver })
+
+holds-settle : (d : Transport) (time c : ℕ) (b : Reception) → Holds d time → isLockedAgainst (d .lock) c time ≡ false → Tells (d .settings .maximum) (d .allocated) (d .receiver) b → IsOf c b → Holds (settle d time c b .state) time
+unfolding settle
+holds-settle d time c silent k r t o = k
+holds-settle d time c (fault e) k r t o = k
+holds-settle d time c (whole own cmd payload) k r t o =
+    keeps-dispatch (λ (x : Transport). Holds x time) d time own payload k (commandOf cmd)
+    (holds-init d time own k (t .0) (subst (λ (x : ℕ). isLockedAgainst (d .lock) x time ≡ false) (sym o) r))
+    (λ e. holds-lock d time own k (getD payload 0 0) (⊎-elim (λ a. a) (λ a. absurd (omega (arith, among-lock commands cmd e, a .1))) (t .2)))
+
+pub holds-hear : (d : Transport) (time : ℕ) (disabled : Bool) (p : Packet) → Holds d time → Formed p → Holds (hear d time disabled p .state) time
+holds-hear d time disabled p k f =
+    keeps-hear (λ (x : Transport). Holds x time) d time disabled p k
+    (λ v s.
+    let t : Turn = receive (d .settings .maximum) time (d .receiver) p in
+    let u : Turns (d .settings .maximum) (d .allocated) time t = turns-valid d time p k f v in
+    holds-settle (withReceiver d (t .receiver)) time (channelOf p) (t .reception)
+    (record { count = k .count; lock = k .lock; holder = k .holder; receiver = u .receives })
+    (not-against (d .lock) time disabled (channelOf p) s) (u .tells) (own (d .settings .maximum) time (d .receiver) p))

@@ -7,18 +7,19 @@ use lib.ListN.{length}
 use lib.Dec.{ltb, leb, eqb}
 use Rattle.ctaphid.specs.Choice.{pick, refusing}
 use Rattle.ctaphid.specs.Limits.{packetSize, largest, lastTime}
-use Rattle.ctaphid.specs.Packets.{Packet, read}
+use Rattle.ctaphid.specs.Packets.{Packet, Formed, read}
 use Rattle.ctaphid.specs.Receiver.{channelOf, receive}
 use Rattle.ctaphid.specs.Transport as standard
 use Rattle.ctaphid.specs.Transport.{Transport, Next, isValid, isShut, hear}
 use Rattle.packet.specs.declared.command.CtapHidCommand.the-variants.{Ping}
+use Rattle.hid.specs.declared.MessageAssembler.{MessageAssembler}
 use Rattle.hid.specs.declared.CtapHid.{CtapHid}
 use Rattle.hid.specs.declared.Answer.{Answer}
 use Rattle.hid.specs.declared.Answer.the-variants.{Refused, Echo}
 use Rattle.hid.specs.declared.Stepped.{Stepped}
 use Rattle.hid.specs.Meaning.{none, receiverOf, transportOf, stateOf, answerOf, replied}
 use Rattle.hid.specs.Receiving.{buffered}
-use Rattle.hid.specs.Soundness.{isSound}
+use Rattle.hid.specs.Soundness.{Sound, isSound}
 
 -- refusal 8: a PING to be echoed has over 7,609 bytes
 unfoldable pub echoOf : (cid len : ℕ) → Answer
@@ -61,6 +62,22 @@ pub record Serves (s : CtapHid) (len : ℕ) (m r : List ℕ) : Type 0 where
   pub short : 17 ≤ length r
 
 -- ---- over both buffers
+
+-- s with another last time and transaction
+abbrev pub having : CtapHid → (time : ℕ) → MessageAssembler → CtapHid
+having s time a =
+    record { assembler = a; lock = s .lock; last = time; allocated = s .allocated; locked = s .locked; max = s .max; u2f = s .u2f }
+
+-- s as a packet at this time meets it. What stands in an assembler without a transaction is cleared
+unfoldable pub arriving : CtapHid → (time : ℕ) → CtapHid
+arriving s time = having s time (pick (eqb (s .assembler .len) 0) none (s .assembler))
+
+-- what hearing a packet asks
+pub record Hears (s : CtapHid) (p : Packet) (m r : List ℕ) : Type 0 where
+  pub sound : Sound s 0
+  pub formed : Formed p
+  pub room : s .max ≤ length m
+  pub short : 17 ≤ length r
 
 -- all that a call leaves: what it returns, and both buffers
 pub record Stepping : Type 0 where

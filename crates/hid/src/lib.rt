@@ -3,6 +3,7 @@
 mod channels;
 mod receive;
 mod soundness;
+mod transport;
 
 pub use channels::echo;
 use packet::CtapHidCommand;
