@@ -1,3 +1,4 @@
 pub mod Receiving
 pub mod Serving
 pub mod Sound
+pub mod Hearing

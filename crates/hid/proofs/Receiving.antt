@@ -91,6 +91,9 @@ first-formed {cid} {cmd} {len} p d e h =
 pub adds-of : (a : MessageAssembler) (max time : ℕ) (p : Packet) (m : List ℕ) → Receives a max time p m → (a .len ≡ 0 → ⊥) → Adds a m
 adds-of a max time p m r = r .adds
 
+pub due-of : (a : MessageAssembler) (max time : ℕ) (p : Packet) (m : List ℕ) → Receives a max time p m → (a .len ≡ 0 → ⊥) → a .seq ≤ 127
+due-of a max time p m r = r .due
+
 -- ---- check 6
 module _ (a : MessageAssembler) (m d : List ℕ) (adds : Adds a m) where
   -- what the code makes of an addition

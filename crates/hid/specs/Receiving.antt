@@ -53,4 +53,4 @@ pub record Receives (a : MessageAssembler) (max time : ℕ) (p : Packet) (m : Li
   pub early : time ≤ 0xffff_ffff_ffff
   pub formed : Formed p
   pub adds : (a .len ≡ 0 → ⊥) → Adds a m
-  pub due : a .seq ≤ 127
+  pub due : (a .len ≡ 0 → ⊥) → a .seq ≤ 127

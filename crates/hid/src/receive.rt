@@ -102,6 +102,7 @@ fn when_busy(
 ) -> Assembled
     requires { ⌜ Receives assembler max time (heard packet (now «data»)) (now message) ⌝ }
     requires { ⌜ Adds assembler (now message) ⌝ }
+    requires { ⌜ assembler .seq ≤ 127 ⌝ }
     ensures { λ r. ⌜ assembling r (now (message .exit)) ≡ assembledOf (whenBusy max time (transactionOf assembler (now (message .entry))) (heard packet (now («data» .entry)))) (now (message .entry)) ⌝ }
 {
     match packet {

@@ -29,10 +29,9 @@ ghost use Rattle.hid.specs.Meaning.{none, receiverOf, transportOf};
 ghost use Rattle.hid.specs.Receiving.{buffered};
 ghost use Rattle.hid.specs.Serving.{servedOf, having, arriving, stepping, steppingOf, heardOf, Hears};
 
-// Checks 1 and 2 need the packet's numbers alone; the rest is serve's.
+// Check 1, at the state's own last time.
 pub(crate) fn hear(
     hid: CtapHid,
-    time: u64,
     disabled: bool,
     packet: ProcessedPacket,
     data: &[u8],
@@ -40,22 +39,38 @@ pub(crate) fn hear(
     reply: &mut [u8],
 ) -> Stepped
     requires { ⌜ Hears hid (heard packet (now «data»)) (now message) (now reply) ⌝ }
-    requires { ⌜ (hid .last ≤ time) × (time ≤ 0xffff_ffff_ffff) ⌝ }
-    ensures { λ r. ⌜ stepping r (now (message .exit)) (now (reply .exit)) ≡ heardOf hid time disabled (heard packet (now («data» .entry))) (now (message .entry)) (now (reply .entry)) ⌝ }
+    requires { ⌜ hid ≡ arriving hid (hid .last) ⌝ }
+    ensures { λ r. ⌜ stepping r (now (message .exit)) (now (reply .exit)) ≡ heardOf hid (hid .last) disabled (heard packet (now («data» .entry))) (now (message .entry)) (now (reply .entry)) ⌝ }
 {
-    let next = at_time(hid, time);
-    if !has_valid_channel(hid.allocated, packet) {
-        return not_valid(next, packet, reply);
+    if has_valid_channel(hid.allocated, packet) {
+        return hear_valid(hid, disabled, packet, data, message, reply);
     }
+    not_valid(hid, packet, reply)
+}
+
+// Check 2.
+fn hear_valid(
+    hid: CtapHid,
+    disabled: bool,
+    packet: ProcessedPacket,
+    data: &[u8],
+    message: &mut [u8],
+    reply: &mut [u8],
+) -> Stepped
+    requires { ⌜ Hears hid (heard packet (now «data»)) (now message) (now reply) ⌝ }
+    requires { ⌜ hid ≡ arriving hid (hid .last) ⌝ }
+    requires { ⌜ isValid (hid .allocated) (heard packet (now «data»)) ≡ true ⌝ }
+    ensures { λ r. ⌜ stepping r (now (message .exit)) (now (reply .exit)) ≡ heardOf hid (hid .last) disabled (heard packet (now («data» .entry))) (now (message .entry)) (now (reply .entry)) ⌝ }
+{
     let cid = channel_of(packet);
-    if is_shut(hid.lock, hid.locked, time, disabled, cid) {
-        return error_message(next, cid, CtapHidError::CHANNEL_BUSY, reply);
+    if is_shut(hid.lock, hid.locked, hid.last, disabled, cid) {
+        return error_message(hid, cid, CtapHidError::CHANNEL_BUSY, reply);
     }
-    serve(next, packet, data, message, reply)
+    serve(hid, packet, data, message, reply)
 }
 
 // The time is now the last one. What stands in an assembler without a transaction is cleared.
-fn at_time(hid: CtapHid, time: u64) -> CtapHid
+pub(crate) fn at_time(hid: CtapHid, time: u64) -> CtapHid
     ensures { λ r. ⌜ r ≡ arriving hid time ⌝ }
 {
     let assembler = hid.assembler;
@@ -101,7 +116,8 @@ fn serve(
 {
     let assembled = parse_packet(hid.assembler, hid.max, hid.last, packet, data, message);
     let next = with_assembler(hid, hid.last, assembled.assembler);
-    match assembled.received {
+    let received = assembled.received;
+    match received {
         Received::Nothing => no_message(next),
         Received::Error(error) => error_message(next, channel_of(packet), error, reply),
         Received::Message { cid, cmd, len } => {

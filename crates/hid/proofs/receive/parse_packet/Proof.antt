@@ -1,6 +1,6 @@
 -- `parse_packet` meets its contract. Assumes nothing.
 use Rattle.ctaphid.proofs.Tests.{tests}
-use Rattle.hid.proofs.Receiving.{turns, adds-of}
+use Rattle.hid.proofs.Receiving.{turns, adds-of, due-of}
 use borrow.Author.Needs.{needs}
 use Rattle.hid.proofs.receive.parse_packet.Statement.{statement}
 use Rattle.hid.proofs.receive.parse_packet.Tie as tie
@@ -29,7 +29,7 @@ returns-2 : tie.Need-returns-2
 returns-2 c = search (tests, turns)
 
 when-busy-requires : tie.Need-when-busy-requires
-when-busy-requires c κs = search (needs, adds-of)
+when-busy-requires c κs = search (needs, adds-of, due-of)
 
 same-length-3 : tie.Need-same-length-3
 same-length-3 c = search needs
