@@ -2,3 +2,4 @@ pub mod Receiving
 pub mod Serving
 pub mod Sound
 pub mod Hearing
+pub mod Refusing

@@ -2,3 +2,5 @@ pub mod Meaning
 pub mod Soundness
 pub mod Receiving
 pub mod Serving
+pub mod Asking
+pub mod Outer

@@ -102,16 +102,34 @@ unfoldable pub heardOf : CtapHid → (time : ℕ) → (disabled : Bool) → Pack
 heardOf s time disabled p m r =
     steppingOf (servedOf s time (hear (transportOf s m) time disabled p) r) (messageAfter s time disabled p m)
 
--- checks 1 to 7 behind the refusals, in the scope's order: 1, the packet isn't 64 bytes; 2, a buffer is short; 3, the state is not sound; 4, the time is
--- too late or before the last. A refused call leaves all as it came
+-- what must be so for a packet to be heard
+pub record Admits (s : CtapHid) (time : ℕ) (p m r : List ℕ) : Type 0 where
+  pub size : length p ≡ 64
+  pub room : s .max ≤ length m
+  pub short : 17 ≤ length r
+  pub sound : Sound s 0
+  pub early : time ≤ 0xffff_ffff_ffff
+  pub later : s .last ≤ time
+
+-- a step's refusals, in the scope's order: 1, the packet isn't 64 bytes; 2, a buffer is short; 3, the state is not sound; 4, the time is too late or before the
+-- last. Each of the last three is the length of what was lent
+abbrev pub refusals : CtapHid → (wink time packet message short : ℕ) → List (Bool × ℕ)
+refusals s wink time packet message short =
+    (not (eqb packet packetSize), 1)
+    ∷ (ltb message (s .max), 2)
+    ∷ (ltb short 17, 2)
+    ∷ (not (isSound s wink), 3)
+    ∷ (ltb lastTime time, 4)
+    ∷ (ltb time (s .last), 4)
+    ∷ []
+
+-- the first that refuses, or 0
+unfoldable pub refusalOf : CtapHid → (wink time packet message short : ℕ) → ℕ
+refusalOf s wink time packet message short = refusing (λ number. number) (refusals s wink time packet message short) 0
+
+-- checks 1 to 7 behind the refusals. A refused call leaves all as it came
 unfoldable pub stepOf : CtapHid → (time : ℕ) → (disabled : Bool) → (packet message short : List ℕ) → Stepping
 stepOf s time disabled p m r =
     refusing (λ number. stepping (record { hid = s; answer = Refused number }) m r)
-    ((not (eqb (length p) packetSize), 1)
-    ∷ (ltb (length m) (s .max), 2)
-    ∷ (ltb (length r) 17, 2)
-    ∷ (not (isSound s 0), 3)
-    ∷ (ltb lastTime time, 4)
-    ∷ (ltb time (s .last), 4)
-    ∷ [])
+    (refusals s 0 time (length p) (length m) (length r))
     (heardOf s time disabled (read p) m r)

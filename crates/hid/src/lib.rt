@@ -1,11 +1,14 @@
 // The device's side of CTAPHID, after OpenSK's hid/receive.rs, the rest of hid/mod.rs, and main_hid.rs.
 
 mod channels;
+mod main_hid;
+mod parts;
 mod receive;
 mod soundness;
 mod transport;
 
 pub use channels::echo;
+pub use parts::payload;
 use packet::CtapHidCommand;
 ghost use mathlib.Core.Path.{_≡_};
 
@@ -64,8 +67,32 @@ pub enum Answer {
     },
 }
 
+// A fresh transport, or a refusal.
+pub enum Ready {
+    Hid(CtapHid),
+    Refused(u8),
+}
+
+pub enum MainReady {
+    Hid(MainHid),
+    Refused(u8),
+}
+
+// Whether a lock, or a wink, runs.
+pub enum Running {
+    Yes,
+    No,
+    Refused(u8),
+}
+
 // The transport after a step, and the answer.
 pub struct Stepped {
     pub hid: CtapHid,
+    pub answer: Answer,
+}
+
+// The device after a step, and the answer.
+pub struct MainStepped {
+    pub hid: MainHid,
     pub answer: Answer,
 }
