@@ -3,3 +3,5 @@ pub mod Serving
 pub mod Sound
 pub mod Hearing
 pub mod Refusing
+pub mod Finishing
+pub mod Payloads

@@ -29,7 +29,7 @@ use Rattle.hid.proofs.Sound.{sound-is}
 use Rattle.hid.proofs.Hearing.{arrived, hears-later, heard-later}
 
 -- ---- a list of refusals, and the first number
-refused-by : {A : Type 0} (f : ℕ → A) (tests : List (Bool × ℕ)) (a : A) (n : ℕ) → n ≡ refusing (λ number. number) tests 0 → (n ≡ 0 → ⊥) → f n ≡ refusing f tests a
+pub refused-by : {A : Type 0} (f : ℕ → A) (tests : List (Bool × ℕ)) (a : A) (n : ℕ) → n ≡ refusing (λ number. number) tests 0 → (n ≡ 0 → ⊥) → f n ≡ refusing f tests a
 unfolding pick
 refused-by f [] a n e some = absurd (some e)
 refused-by f ((true, number) ∷ rest) a n e some = ap f e
@@ -107,24 +107,26 @@ module _ (s : CtapHid) (wink time : ℕ) (p m r : List ℕ) (n : ℕ) (e : n ≡
       let g₄ = given (not (isSound s wink)) 3 _ (λ z. absurd (omega arith)) (g₃ .1) in
       let g₅ = given (ltb lastTime time) 4 _ (λ z. absurd (omega arith)) (g₄ .1) in
       let g₆ = given (ltb time (s .last)) 4 _ (λ z. absurd (omega arith)) (g₅ .1) in
-      let sound : Sound s wink = sound-is s wink (not-true (isSound s wink) (g₄ .0)) in
-      (sound, record {
-        size = eqb-true (length p) packetSize (not-true (eqb (length p) packetSize) (g₁ .0));
-        room = ltb-false (length m) (s .max) (g₂ .0);
-        short = ltb-false (length r) 17 (g₃ .0);
-        sound = record {
-          maximum = sound .maximum;
-          count = sound .count;
-          last = sound .last;
-          deadline = sound .deadline;
-          lock = sound .lock;
-          wink = omega arith;
-          holder = sound .holder;
-          transaction = sound .transaction;
-        };
-        early = ltb-false lastTime time (g₅ .0);
-        later = ltb-false time (s .last) (g₆ .0);
-      })
+      let sound : Sound s wink = sound-is s wink (not-true (isSound s wink) (g₄ .0)) in (
+        sound,
+        record {
+          size = eqb-true (length p) packetSize (not-true (eqb (length p) packetSize) (g₁ .0));
+          room = ltb-false (length m) (s .max) (g₂ .0);
+          short = ltb-false (length r) 17 (g₃ .0);
+          sound = record {
+            maximum = sound .maximum;
+            count = sound .count;
+            last = sound .last;
+            deadline = sound .deadline;
+            lock = sound .lock;
+            wink = omega arith;
+            holder = sound .holder;
+            transaction = sound .transaction;
+          };
+          early = ltb-false lastTime time (g₅ .0);
+          later = ltb-false time (s .last) (g₆ .0);
+        },
+      )
 
 -- ---- a step
 module _ (s : CtapHid) (time : ℕ) (disabled : Bool) (p m r : List ℕ) {n : ℕ} (e : n ≡ refusalOf s 0 time (length p) (length m) (length r)) where

@@ -8,8 +8,8 @@ mod soundness;
 mod transport;
 
 pub use channels::echo;
-pub use parts::payload;
 use packet::CtapHidCommand;
+pub use parts::payload;
 ghost use mathlib.Core.Path.{_≡_};
 
 // Every state is numbers, without padding, so that one type serves Rattle, Rust and C. A timer is its deadline, 0 when unset.

@@ -44,7 +44,14 @@ impl MainHid {
         ensures { λ r. ⌜ mainStepping r (now (message .exit)) (now (reply .exit)) ≡ mainStepOf self time disabled (now (packet .entry)) (now (message .entry)) (now (reply .entry)) ⌝ }
     {
         let hid = self.hid;
-        let number = refusal(hid, self.wink, time, packet.len(), message.len(), reply.len());
+        let number = refusal(
+            hid,
+            self.wink,
+            time,
+            packet.len(),
+            message.len(),
+            reply.len(),
+        );
         if number != 0 {
             return with_wink(hid, self.wink, Answer::Refused(number));
         }

@@ -17,6 +17,17 @@ case-meant Cancel = refl
 case-meant Keepalive = refl
 case-meant Error = refl
 
+pub meant-case : (k : standard.Command) → commandMeant (commandCase k) ≡ k
+meant-case standard.MSG = refl
+meant-case standard.CBOR = refl
+meant-case standard.INIT = refl
+meant-case standard.PING = refl
+meant-case standard.CANCEL = refl
+meant-case standard.ERROR = refl
+meant-case standard.KEEPALIVE = refl
+meant-case standard.WINK = refl
+meant-case standard.LOCK = refl
+
 -- two that mean the same are the same
 pub meant-one : (x y : CtapHidCommand) → commandMeant x ≡ commandMeant y → x ≡ y
 meant-one x y e = sym (case-meant x) ∙ (ap commandCase e ∙ case-meant y)

@@ -26,9 +26,10 @@ hear-requires c κs =
     let at-arrival = at-read .before in
     let known = at-arrival .before .before .before in
     let start = known .before in
-    let is = packet-read (start .args .packet .now) (start .pre .size) (at-read .process-single-packet .result) (at-read .process-single-packet .ensures) {processed = at-processed .processed .given .0 .0} (at-data .packet-data .result .now) (search needs) (at-data .packet-data .ensures .bytes) in
-    (hears-packet (start .args .hid) (start .args .time) (start .args .packet .now) (start .args .message .now) (start .args .reply .now) _ (at-arrival .at-time .ensures) (start .pre) _ is (λ i. omega (arith, known .shared-slice-known .given i)),
-    arrived (start .args .hid) (start .args .time) _ (at-arrival .at-time .ensures))
+    let is = packet-read (start .args .packet .now) (start .pre .size) (at-read .process-single-packet .result) (at-read .process-single-packet .ensures) {processed = at-processed .processed .given .0 .0} (at-data .packet-data .result .now) (search needs) (at-data .packet-data .ensures .bytes) in (
+      hears-packet (start .args .hid) (start .args .time) (start .args .packet .now) (start .args .message .now) (start .args .reply .now) _ (at-arrival .at-time .ensures) (start .pre) _ is (λ i. omega (arith, known .shared-slice-known .given i)),
+      arrived (start .args .hid) (start .args .time) _ (at-arrival .at-time .ensures),
+    )
 
 enum-told : tie.Need-enum-told
 enum-told c = search needs
