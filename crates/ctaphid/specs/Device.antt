@@ -1,6 +1,7 @@
--- The device over its transport: wink, and the hand-over of MSG and CBOR (§11.2.9.2.1). Check 8 of the scope. Assumes nothing.
+-- The device over its transport: wink, and the hand-over of MSG and CBOR (§11.2.9.2.1). Check 8 of the scope. It sends no KEEPALIVE (DIFFERENCES 25).
+-- Assumes nothing.
 use Prim.Native.Nat.{ℕ, _+_}
-use mathlib.Core.List.{List, []}
+use mathlib.Core.List.{List, [], _∷_}
 use mathlib.Core.Bool.{Bool}
 use lib.ListN.{length}
 use lib.Dec.{ltb, eqb}
@@ -53,3 +54,8 @@ deviceStep o e = above (e .time) (o .wink) (step (o .transport) e)
 -- the question whether a wink runs
 abbrev pub isWinking : Device → (time : ℕ) → Bool
 isWinking o time = ltb time (o .wink)
+
+-- the answers of a run of steps
+abbrev pub deviceRun : Device → List Event → List Answer
+deviceRun o [] = []
+deviceRun o (e ∷ rest) = deviceStep o e .answer ∷ deviceRun (deviceStep o e .state) rest

@@ -67,7 +67,8 @@ unfoldable pub whenIdle : (maximum time : ℕ) → Packet → Turn
 whenIdle max time (initialization c cmd n field) = start max time c cmd n field
 whenIdle max time (continuation c k field) = turn idle silent
 
--- §11.2.5.2: the time is over, the transaction with it, and the device is idle again. That its channel's next continuation packet is told so is DIFFERENCES 7
+-- §11.2.5.2: the time is over, the transaction with it, and the device is idle again. That its channel's continuation packet is told so, if it is the
+-- first to come, is DIFFERENCES 7
 unfoldable pub whenOver : (maximum time : ℕ) → Transaction → Packet → Turn
 whenOver max time t (initialization c cmd n field) = whenIdle max time (initialization c cmd n field)
 whenOver max time t (continuation c k field) =
@@ -91,7 +92,8 @@ onOwn max time t (continuation c k field) =
     }) field)
     (turn idle (fault InvalidSeq))
 
--- §11.2.5.1: while a transaction is on, any other channel is told that the device is busy, and nothing alters. To continuation packets too: DIFFERENCES 11
+-- §11.2.5.1: while a transaction is on, any other channel is told that the device is busy, and nothing alters. To continuation packets, CANCEL and INIT too:
+-- DIFFERENCES 11, 9 and 16
 unfoldable pub whenBusy : (maximum time : ℕ) → Transaction → Packet → Turn
 whenBusy max time t p =
     pick (eqb (channelOf p) (t .channel)) (onOwn max time t p) (turn (busy t) (fault ChannelBusy))

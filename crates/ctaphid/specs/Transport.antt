@@ -89,7 +89,8 @@ isLockedBy l c time = pick (isLocked l time) (eqb (l .holder) c) false
 unfoldable pub isLockedAgainst : Lock → (channel time : ℕ) → Bool
 isLockedAgainst l c time = pick (isLocked l time) (not (eqb (l .holder) c)) false
 
--- §11.2.6: while another channel's lock runs, a channel can't communicate. A transport that is disabled answers the same: DIFFERENCES 15
+-- §11.2.6: while another channel's lock runs, a channel can't communicate, nor get a channel or cancel (DIFFERENCES 16 and 9). A transport that is disabled
+-- answers the same: DIFFERENCES 15
 unfoldable pub isShut : Lock → (time : ℕ) → (disabled : Bool) → (channel : ℕ) → Bool
 isShut l time disabled c = pick disabled true (isLockedAgainst l c time)
 
@@ -106,7 +107,7 @@ initReply nonce c set = nonce ++ (four c ++ (2 ∷ 1 ∷ 0 ∷ 0 ∷ capabilitie
 abbrev pub withAllocated : Transport → ℕ → Transport
 withAllocated d n = record { settings = d .settings; allocated = n; lock = d .lock; receiver = d .receiver }
 
--- §11.2.9.1.3: 8 bytes (DIFFERENCES 16). On the broadcast channel a channel is allocated; elsewhere the channel stays, and so does its lock (DIFFERENCES 17)
+-- §11.2.9.1.3: 8 bytes, told when it is whole (DIFFERENCES 16). On the broadcast channel a channel is allocated; elsewhere the channel stays, and so does its lock (DIFFERENCES 17)
 unfoldable pub onInit : Transport → (channel : ℕ) → List ℕ → Next Transport
 onInit d c nonce =
     pick (eqb (length nonce) 8)
@@ -171,3 +172,8 @@ hear d time disabled p =
 
 abbrev pub step : Transport → Event → Next Transport
 step d e = hear d (e .time) (e .disabled) (read (e .packet))
+
+-- the answers of a run of steps
+abbrev pub run : Transport → List Event → List Answer
+run d [] = []
+run d (e ∷ rest) = step d e .answer ∷ run (step d e .state) rest

@@ -158,7 +158,7 @@ above-replied time wink d (reply c cmd payload) r = refl
 above-replied time wink d (request c cmd payload) r = refl
 
 -- no reply makes the buffer shorter
-replied-long : (a : standard.Answer) (r : List ℕ) → length r ≤ length (replied a r)
+pub replied-long : (a : standard.Answer) (r : List ℕ) → length r ≤ length (replied a r)
 replied-long nothing r = omega arith
 replied-long (reply c cmd payload) r = by-kind (isEcho cmd)
   where

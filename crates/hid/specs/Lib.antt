@@ -4,3 +4,4 @@ pub mod Receiving
 pub mod Serving
 pub mod Asking
 pub mod Outer
+pub mod Refining

@@ -1,0 +1,252 @@
+-- The code's steps refine the standard's, and keep the state sound. Assumes nothing.
+use Prim.Native.Nat.{ℕ, _+_, _*_, _≤_, _<_}
+use native.Mathlib.Omega.{arith}
+use native.Mathlib.Decide.{ℕ-discrete}
+use mathlib.Core.Path.{_≡_, refl, sym, ap, subst, _∙_}
+use mathlib.Core.List.{List, [], _∷_, _++_, map}
+use mathlib.Core.Bool.{Bool, true, false, not, cond, true≢false}
+use borrow.Author.Tests.{eq-eqb, ne-eqb, eqb-false, le-ltb}
+use lib.Dec.{eqb, ltb}
+use lib.ListN.{length, take, drop, getD, length-append, length-drop, take-append-drop}
+use lib.Seq.{length-take-le, take-at}
+use Rattle.ctaphid.specs.Choice.{pick}
+use Rattle.ctaphid.specs.Commands.{Command, MSG, CBOR, INIT, PING, CANCEL, ERROR, KEEPALIVE, WINK, LOCK, number, commandOf}
+use Rattle.ctaphid.specs.Errors.{ChannelBusy}
+use Rattle.ctaphid.specs.Packets.{Packet, initialization, continuation, read, Bytes, Formed}
+use Rattle.ctaphid.specs.Receiver.{Transaction, Receiver, idle, busy, Reception, silent, fault, whole, Turn, channelOf, receive}
+use Rattle.ctaphid.specs.Transport as standard
+use Rattle.ctaphid.specs.Transport.{Settings, Transport, Event, Next, next, nothing, reply, request, error, isValid, notValid, isShut, onInit, onLock, dispatch, settle, withReceiver, serve, hear, step, run, fresh}
+use Rattle.ctaphid.specs.Device.{Device, device, onWink, onMsg, onRequest, answered as answeredAbove, above, deviceStep, deviceRun, setUp}
+use Rattle.ctaphid.proofs.Tests.{pick-known, pick-both}
+use Rattle.ctaphid.proofs.Packets.{read-formed}
+use Rattle.ctaphid.proofs.Transport.{hear-invalid, hear-shut, hear-served}
+use Rattle.ctaphid.proofs.Invariant as invariant
+use Rattle.ctaphid.proofs.Invariant.{Holds, Tells, Turns, turns-valid, holds-later, holds-hear, same-settings}
+use Rattle.packet.specs.Numbers.{commandMeant, commandCase}
+use Rattle.packet.proofs.Numbers.{meant-case}
+use Rattle.collect.specs.Adding.{front}
+use Rattle.hid.specs.declared.MessageAssembler.{MessageAssembler}
+use Rattle.hid.specs.declared.CtapHid.{CtapHid}
+use Rattle.hid.specs.declared.MainHid.{MainHid}
+use Rattle.hid.specs.declared.Answer.the-variants.{Echo, Reply}
+use Rattle.hid.specs.Meaning.{none, transactionOf, receiverOf, settingsOf, transportOf, assemblerOf, stateOf, isEcho, answerOf, replied, Said, refused, answered, said}
+use Rattle.hid.specs.Soundness.{Sound, Transacts}
+use Rattle.hid.specs.Receiving.{bufferOf, buffered}
+use Rattle.hid.specs.Serving.{servedOf, Stepping, messageAfter, heardOf, stepOf}
+use Rattle.hid.specs.Outer.{deviceOf, MainStepping, mainHeardOf, mainStepOf}
+use Rattle.hid.specs.Asking.{freshHid, freshMain}
+use Rattle.hid.specs.Refining.{Refines, MainRefines, Comes, Come, onEvent, mainOnEvent, runOf, mainRunOf, StepRefines, SoundStays, MainStepRefines, MainSoundStays, SetUpSound, RunsAlike, MainRunsAlike}
+use Rattle.hid.proofs.Sound.{is-sound}
+use Rattle.hid.proofs.Hearing.{holds-is}
+use Rattle.hid.proofs.Finishing.{same-transport, replied-long}
+
+-- ---- the meaning of the numbers for a receiver is that receiver, where its bytes stand in the buffer
+abbrev Stands : Receiver → List ℕ → Type 0
+Stands idle m = Unit {0}
+Stands (busy t) m = (0 < t .declared) × (take (length (t .collected)) m ≡ t .collected)
+
+receiver-back : (rcv : Receiver) (m : List ℕ) → Stands rcv m → receiverOf (assemblerOf rcv) m ≡ rcv
+unfolding receiverOf pick
+receiver-back idle m h = refl
+receiver-back (busy t) m h =
+    let back : busy (transactionOf (assemblerOf (busy t)) m) ≡ busy t =
+    λ i. busy (record { channel = t .channel; command = t .command; declared = t .declared; collected = h .1 i; due = t .due; deadline = t .deadline }) in
+    simp (ne-eqb (t .declared) 0 (λ z. absurd (omega (arith, h .0)))) back
+
+-- payloads stand at the front
+at-front : (payload m : List ℕ) → take (length payload) (front payload m) ≡ payload
+at-front payload m = take-at payload (drop (length payload) m) (length payload) refl
+
+stands-buffered : (max n time : ℕ) (rcv : Receiver) (b : Reception) (m : List ℕ) → invariant.Receives max n time rcv → Stands rcv (bufferOf rcv b m)
+stands-buffered max n time idle b m h = tt
+stands-buffered max n time (busy t) b m h = (omega (arith, h .below), at-front (t .collected) m)
+
+-- what a sound state means stands there already
+stands-already : (s : CtapHid) (wink : ℕ) (m : List ℕ) → Sound s wink → s .max ≤ length m → Stands (receiverOf (s .assembler) m) m
+unfolding receiverOf
+stands-already s wink m h room =
+    pick-known (λ (r : Receiver). Stands r m) (eqb (s .assembler .len) 0) _ _
+    (λ e. tt)
+    (λ e.
+    let t = h .transaction (eqb-false (s .assembler .len) 0 e) in
+    let size : length (take (s .assembler .taken) m) ≡ s .assembler .taken = length-take-le (s .assembler .taken) m (omega (arith, t .below, t .bytes, t .most)) in
+    (omega (arith, t .long), ap (λ (n : ℕ). take n m) size))
+
+-- ---- an answer's payload is where the code says
+abbrev Carried : standard.Answer → List ℕ → Type 0
+Carried nothing m = Unit {0}
+Carried (reply c k payload) m = isEcho k ≡ true → take (length payload) m ≡ payload
+Carried (request c k payload) m = take (length payload) m ≡ payload
+
+said-back : (a : standard.Answer) (m r : List ℕ) → Carried a m → said (answerOf a) m (replied a r) ≡ answered a
+said-back nothing m r h = refl
+said-back (reply c k payload) m r h = by-kind (isEcho k) h
+  where
+    by-kind : (b : Bool) → (b ≡ true → take (length payload) m ≡ payload)
+        → said (cond b (Echo c (commandCase k) (length payload)) (Reply c (commandCase k) (length payload))) m (cond b r (front payload r)) ≡ answered (reply c k payload)
+    by-kind true f = rw (meant-case k) (ap (λ (y : List ℕ). answered (reply c k y)) (f refl))
+    by-kind false f = rw (meant-case k) (ap (λ (y : List ℕ). answered (reply c k y)) (at-front payload r))
+said-back (request c k payload) m r h = rw (meant-case k) (ap (λ (y : List ℕ). answered (request c k y)) h)
+
+no-echo : {A : Type 0} → false ≡ true → A
+no-echo e = absurd (true≢false (sym e))
+
+carried-dispatch : (d : Transport) (time c : ℕ) (k : Command) (payload m : List ℕ) → take (length payload) m ≡ payload → Carried (dispatch d time c k payload .answer) m
+unfolding dispatch onInit onLock
+carried-dispatch d time c MSG payload m h = h
+carried-dispatch d time c CBOR payload m h = h
+carried-dispatch d time c INIT payload m h =
+    pick-both (λ (n : Next Transport). Carried (n .answer) m) (eqb (length payload) 8) _ _ (pick-both (λ (n : Next Transport). Carried (n .answer) m) (eqb c 0xffff_ffff) _ _ no-echo no-echo) no-echo
+carried-dispatch d time c PING payload m h = λ e. h
+carried-dispatch d time c CANCEL payload m h = tt
+carried-dispatch d time c ERROR payload m h = no-echo
+carried-dispatch d time c KEEPALIVE payload m h = no-echo
+carried-dispatch d time c WINK payload m h = h
+carried-dispatch d time c LOCK payload m h =
+    pick-both (λ (n : Next Transport). Carried (n .answer) m) (eqb (length payload) 1) _ _ (pick-both (λ (n : Next Transport). Carried (n .answer) m) (ltb 10 (getD payload 0 0)) _ _ no-echo no-echo) no-echo
+
+carried-settle : (d : Transport) (max n time c : ℕ) (rcv : Receiver) (b : Reception) (m : List ℕ) → Tells max n rcv b → Carried (settle (withReceiver d rcv) time c b .answer) (bufferOf rcv b m)
+unfolding settle
+carried-settle d max n time c rcv silent m h = tt
+carried-settle d max n time c rcv (fault e) m h = no-echo
+carried-settle d max n time c idle (whole own cmd payload) m h = carried-dispatch (withReceiver d idle) time own (commandOf cmd) payload (front payload m) (at-front payload m)
+carried-settle d max n time c (busy t) (whole own cmd payload) m h = absurd (omega (arith, ap isBusy (h .0)))
+  where
+    isBusy : Receiver → ℕ
+    isBusy idle = 0
+    isBusy (busy u) = 1
+
+-- serving a message leaves the receiver as it is
+same-receiver : (d : Transport) (time c : ℕ) (b : Reception) → settle d time c b .state .receiver ≡ d .receiver
+unfolding settle dispatch onInit onLock
+same-receiver d time c silent = refl
+same-receiver d time c (fault e) = refl
+same-receiver d time c (whole own cmd payload) = by-command (commandOf cmd)
+  where
+    Same : Next Transport → Type 0
+    Same n = n .state .receiver ≡ d .receiver
+
+    by-command : (k : Command) → Same (dispatch d time own k payload)
+    by-command MSG = refl
+    by-command CBOR = refl
+    by-command INIT = pick-both Same (eqb (length payload) 8) _ _ (pick-both Same (eqb own 0xffff_ffff) _ _ refl refl) refl
+    by-command PING = refl
+    by-command CANCEL = refl
+    by-command ERROR = refl
+    by-command KEEPALIVE = refl
+    by-command WINK = refl
+    by-command LOCK = pick-both Same (eqb (length payload) 1) _ _ (pick-both Same (ltb 10 (getD payload 0 0)) _ _ refl refl) refl
+
+carried-not-valid : (p : Packet) (m : List ℕ) → Carried (notValid p) m
+carried-not-valid (initialization c cmd n field) m = no-echo
+carried-not-valid (continuation c k field) m = tt
+
+-- ---- both, for a packet that is heard
+both-pick : {A B : Type 0} (P : A → B → Type 0) (test : Bool) (a b : A) (x y : B) → (test ≡ true → P a x) → (test ≡ false → P b y) → P (pick test a b) (pick test x y)
+unfolding pick
+both-pick P true a b x y p q = p refl
+both-pick P false a b x y p q = q refl
+
+module _ (s : CtapHid) (wink time : ℕ) (disabled : Bool) (p : Packet) (m : List ℕ) (sound : Sound s wink) (room : s .max ≤ length m) (later : s .last ≤ time) (formed : Formed p) where
+  abbrev d : Transport
+  d = transportOf s m
+
+  holds : Holds d time
+  holds = holds-later d (s .last) time later (holds-is s wink m sound room)
+
+  abbrev Right : Next Transport → List ℕ → Type 0
+  Right n m′ = Stands (n .state .receiver) m′ × Carried (n .answer) m′
+
+  served-right : isValid (s .allocated) p ≡ true → Right (serve d time p) (buffered (receive (s .max) time (receiverOf (s .assembler) m) p) m)
+  served-right valid =
+      let t : Turn = receive (s .max) time (receiverOf (s .assembler) m) p in
+      let ts = turns-valid d time p holds formed valid in
+      (subst (λ (y : Receiver). Stands y (buffered t m)) (sym (same-receiver (withReceiver d (t .receiver)) time (channelOf p) (t .reception))) (stands-buffered (s .max) (s .allocated) time (t .receiver) (t .reception) m (ts .receives)),
+      carried-settle d (s .max) (s .allocated) time (channelOf p) (t .receiver) (t .reception) m (ts .tells))
+
+  heard-right : Right (hear d time disabled p) (messageAfter s time disabled p m)
+  unfolding hear messageAfter
+  heard-right =
+      both-pick Right (isValid (s .allocated) p) _ _ _ _
+      (λ valid. both-pick Right (isShut (d .lock) time disabled (channelOf p)) _ _ _ _ (λ e. (already, no-echo)) (λ e. served-right valid))
+      (λ valid. (already, carried-not-valid p m))
+    where
+      already : Stands (d .receiver) m
+      already = stands-already s wink m sound room
+
+  -- the state means what the standard's step leads to
+  state-back : transportOf (stateOf s time (hear d time disabled p .state)) (messageAfter s time disabled p m) ≡ hear d time disabled p .state
+  state-back =
+      let n : Transport = hear d time disabled p .state in
+      let set : settingsOf s ≡ n .settings = sym (same-settings d time disabled p) in
+      let back : receiverOf (assemblerOf (n .receiver)) (messageAfter s time disabled p m) ≡ n .receiver = receiver-back (n .receiver) (messageAfter s time disabled p m) (heard-right .0) in
+      λ i. record { settings = set i; allocated = n .allocated; lock = n .lock; receiver = back i }
+
+  -- and is sound
+  sound-of : (rcv : Receiver) (max n : ℕ) → invariant.Receives max n time rcv → (assemblerOf rcv .deadline ≤ time + 100) × ((assemblerOf rcv .len ≡ 0 → ⊥) → Transacts max n (assemblerOf rcv))
+  sound-of idle max n h = (omega arith, λ z. absurd (z refl))
+  sound-of (busy t) max n h =
+      (h .deadline, λ z. record {
+        command = h .command;
+        long = omega (arith, h .below, h .bytes);
+        most = h .most;
+        below = omega (arith, h .below, h .bytes);
+        bytes = sym (h .bytes);
+        channel = h .channel;
+      })
+
+  state-sound : (until : ℕ) → time ≤ 0xffff_ffff_ffff → until ≤ time + 5000 → Sound (stateOf s time (hear d time disabled p .state)) until
+  state-sound until early winks =
+      let n : Transport = hear d time disabled p .state in
+      let h : Holds n time = holds-hear d time disabled p holds formed in
+      let k = sound-of (n .receiver) (n .settings .maximum) (n .allocated) (h .receiver) in
+      record {
+        maximum = sound .maximum;
+        count = h .count;
+        last = early;
+        deadline = k .0;
+        lock = h .lock;
+        wink = winks;
+        holder = h .holder;
+        transaction = subst (λ (x : Settings). (assemblerOf (n .receiver) .len ≡ 0 → ⊥) → Transacts (x .maximum) (n .allocated) (assemblerOf (n .receiver))) (same-settings d time disabled p) (k .1);
+      }
+
+-- ---- the step
+module _ (s : CtapHid) (m r : List ℕ) (e : Event) (sound : Sound s 0) (room : s .max ≤ length m) (short : 17 ≤ length r) (comes : Comes (s .last) e) where
+  pub step-is : onEvent s m r e ≡ heardOf s (e .time) (e .disabled) (read (e .packet)) m r
+  unfolding stepOf pick
+  step-is =
+      simp (eq-eqb (length (e .packet)) 64 (comes .size), le-ltb (length m) (s .max) room, le-ltb (length r) 17 short, is-sound s 0 sound, le-ltb 0xffff_ffff_ffff (e .time) (comes .early), le-ltb (e .time) (s .last) (comes .later))
+
+  formed : Formed (read (e .packet))
+  formed = read-formed (e .packet) (comes .size) (comes .bytes)
+
+  refined : Refines (heardOf s (e .time) (e .disabled) (read (e .packet)) m r) (step (transportOf s m) e)
+  unfolding heardOf servedOf
+  refined = record {
+    state = state-back s 0 (e .time) (e .disabled) (read (e .packet)) m sound room (comes .later) formed;
+    answer = said-back (step (transportOf s m) e .answer) (messageAfter s (e .time) (e .disabled) (read (e .packet)) m) r (heard-right s 0 (e .time) (e .disabled) (read (e .packet)) m sound room (comes .later) formed .1);
+  }
+
+  stays-sound : Sound (heardOf s (e .time) (e .disabled) (read (e .packet)) m r .stepped .hid) 0
+  unfolding heardOf servedOf
+  stays-sound = state-sound s 0 (e .time) (e .disabled) (read (e .packet)) m sound room (comes .later) formed 0 (comes .early) (omega arith)
+
+pub step-refines : StepRefines
+step-refines s m r e sound room short comes = subst (λ (x : Stepping). Refines x (step (transportOf s m) e)) (sym (step-is s m r e sound room short comes)) (refined s m r e sound room short comes)
+
+pub sound-stays : SoundStays
+sound-stays s m r e sound room short comes = subst (λ (x : Stepping). Sound (x .stepped .hid) 0) (sym (step-is s m r e sound room short comes)) (stays-sound s m r e sound room short comes)
+
+pub set-up-sound : SetUpSound
+set-up-sound max u2f h =
+    record {
+      maximum = h;
+      count = omega arith;
+      last = omega arith;
+      deadline = omega arith;
+      lock = omega arith;
+      wink = omega arith;
+      holder = λ l. absurd (omega arith);
+      transaction = λ z. absurd (z refl);
+    }
