@@ -238,6 +238,12 @@ step-refines s m r e sound room short comes = subst (λ (x : Stepping). Refines 
 pub sound-stays : SoundStays
 sound-stays s m r e sound room short comes = subst (λ (x : Stepping). Sound (x .stepped .hid) 0) (sym (step-is s m r e sound room short comes)) (stays-sound s m r e sound room short comes)
 
+-- set-up means the standard's
+fresh-means : (max : ℕ) (u2f : Bool) (m : List ℕ) → transportOf (freshHid max u2f) m ≡ fresh (record { maximum = max; u2f = u2f })
+unfolding receiverOf pick
+fresh-means max true m = refl
+fresh-means max false m = refl
+
 pub set-up-sound : SetUpSound
 set-up-sound max u2f h =
     record {
@@ -250,3 +256,122 @@ set-up-sound max u2f h =
       holder = λ l. absurd (omega arith);
       transaction = λ z. absurd (z refl);
     }
+
+-- ---- the device's step
+carried-above : (time wink : ℕ) (d : Transport) (a : standard.Answer) (m : List ℕ) → Carried a m → Carried (answeredAbove time wink d a .answer) m
+unfolding answeredAbove onRequest onWink onMsg
+carried-above time wink d nothing m h = tt
+carried-above time wink d (reply c k payload) m h = h
+carried-above time wink d (request c k payload) m h =
+    pick-both Right (eqb (number k) 8) _ _ (pick-both Right (eqb (length payload) 0) _ _ (λ e. refl) no-echo) (pick-both Right (eqb (number k) 3) _ _ (pick-both Right (d .settings .u2f) _ _ h no-echo) h)
+  where
+    Right : Next Device → Type 0
+    Right n = Carried (n .answer) m
+
+wink-bound : (time wink : ℕ) (d : Transport) (a : standard.Answer) → wink ≤ time + 5000 → answeredAbove time wink d a .state .wink ≤ time + 5000
+unfolding answeredAbove onRequest onWink onMsg
+wink-bound time wink d nothing h = h
+wink-bound time wink d (reply c k payload) h = omega arith
+wink-bound time wink d (request c k payload) h =
+    pick-both Right (eqb (number k) 8) _ _ (pick-both Right (eqb (length payload) 0) _ _ (omega arith) (omega arith)) (pick-both Right (eqb (number k) 3) _ _ (pick-both Right (d .settings .u2f) _ _ (omega arith) (omega arith)) (omega arith))
+  where
+    Right : Next Device → Type 0
+    Right n = n .state .wink ≤ time + 5000
+
+module _ (o : MainHid) (m r : List ℕ) (e : Event) (sound : Sound (o .hid) (o .wink)) (room : o .hid .max ≤ length m) (short : 17 ≤ length r) (comes : Comes (o .hid .last) e) where
+  abbrev below : Next Transport
+  below = step (transportOf (o .hid) m) e
+
+  abbrev led : Next Device
+  led = deviceStep (deviceOf o m) e
+
+  abbrev kept : List ℕ
+  kept = messageAfter (o .hid) (e .time) (e .disabled) (read (e .packet)) m
+
+  pub main-step-is : mainOnEvent o m r e ≡ mainHeardOf o (e .time) (e .disabled) (read (e .packet)) m r
+  unfolding mainStepOf pick
+  main-step-is =
+      simp (eq-eqb (length (e .packet)) 64 (comes .size), le-ltb (length m) (o .hid .max) room, le-ltb (length r) 17 short, is-sound (o .hid) (o .wink) sound, le-ltb 0xffff_ffff_ffff (e .time) (comes .early), le-ltb (e .time) (o .hid .last) (comes .later))
+
+  main-formed : Formed (read (e .packet))
+  main-formed = read-formed (e .packet) (comes .size) (comes .bytes)
+
+  same-below : led .state .transport ≡ below .state
+  same-below = same-transport (e .time) (o .wink) (below .state) (below .answer)
+
+  main-refined : MainRefines (mainHeardOf o (e .time) (e .disabled) (read (e .packet)) m r) led
+  unfolding mainHeardOf
+  main-refined =
+      let back : transportOf (stateOf (o .hid) (e .time) (led .state .transport)) kept ≡ led .state .transport =
+      ap (λ (x : Transport). transportOf (stateOf (o .hid) (e .time) x) kept) same-below
+      ∙ (state-back (o .hid) (o .wink) (e .time) (e .disabled) (read (e .packet)) m sound room (comes .later) main-formed ∙ sym same-below) in
+      let right = heard-right (o .hid) (o .wink) (e .time) (e .disabled) (read (e .packet)) m sound room (comes .later) main-formed .1 in
+      record {
+        state = λ i. device (back i) (led .state .wink);
+        answer = said-back (led .answer) kept r (carried-above (e .time) (o .wink) (below .state) (below .answer) kept right);
+      }
+
+  main-stays-sound : Sound (mainHeardOf o (e .time) (e .disabled) (read (e .packet)) m r .stepped .hid .hid) (mainHeardOf o (e .time) (e .disabled) (read (e .packet)) m r .stepped .hid .wink)
+  unfolding mainHeardOf
+  main-stays-sound =
+      subst (λ (x : Transport). Sound (stateOf (o .hid) (e .time) x) (led .state .wink)) (sym same-below)
+      (state-sound (o .hid) (o .wink) (e .time) (e .disabled) (read (e .packet)) m sound room (comes .later) main-formed (led .state .wink) (comes .early)
+      (wink-bound (e .time) (o .wink) (below .state) (below .answer) (omega (arith, sound .wink, comes .later))))
+
+pub main-step-refines : MainStepRefines
+main-step-refines o m r e sound room short comes =
+    subst (λ (x : MainStepping). MainRefines x (deviceStep (deviceOf o m) e)) (sym (main-step-is o m r e sound room short comes)) (main-refined o m r e sound room short comes)
+
+pub main-sound-stays : MainSoundStays
+main-sound-stays o m r e sound room short comes =
+    subst (λ (x : MainStepping). Sound (x .stepped .hid .hid) (x .stepped .hid .wink)) (sym (main-step-is o m r e sound room short comes)) (main-stays-sound o m r e sound room short comes)
+
+-- ---- runs
+
+-- the message buffer keeps its length, as far as a maximum asks
+front-long : (payload m : List ℕ) → length m ≤ length (front payload m)
+front-long payload m = simp (length-append, length-drop) (omega arith)
+
+buffered-long : (rcv : Receiver) (b : Reception) (m : List ℕ) → length m ≤ length (bufferOf rcv b m)
+buffered-long (busy t) b m = front-long (t .collected) m
+buffered-long idle silent m = omega arith
+buffered-long idle (fault x) m = omega arith
+buffered-long idle (whole c cmd payload) m = front-long payload m
+
+kept-long : (s : CtapHid) (time : ℕ) (disabled : Bool) (p : Packet) (m : List ℕ) → length m ≤ length (messageAfter s time disabled p m)
+unfolding messageAfter
+kept-long s time disabled p m =
+    pick-both Long (isValid (s .allocated) p) _ _ (pick-both Long (isShut (transportOf s m .lock) time disabled (channelOf p)) _ _ (omega arith) (buffered-long (t .receiver) (t .reception) m)) (omega arith)
+  where
+    Long : List ℕ → Type 0
+    Long x = length m ≤ length x
+
+    t : Turn
+    t = receive (s .max) time (receiverOf (s .assembler) m) p
+
+-- what a step leaves for the next
+heard-lengths : (s : CtapHid) (m r : List ℕ) (e : Event) → s .max ≤ length m → 17 ≤ length r
+    → (heardOf s (e .time) (e .disabled) (read (e .packet)) m r .stepped .hid .max ≤ length (heardOf s (e .time) (e .disabled) (read (e .packet)) m r .message)) × (17 ≤ length (heardOf s (e .time) (e .disabled) (read (e .packet)) m r .reply)) × (heardOf s (e .time) (e .disabled) (read (e .packet)) m r .stepped .hid .last ≡ e .time)
+unfolding heardOf servedOf
+heard-lengths s m r e room short =
+    (omega (arith, kept-long s (e .time) (e .disabled) (read (e .packet)) m), omega (arith, replied-long (step (transportOf s m) e .answer) r), refl)
+
+module _ (s : CtapHid) (m r : List ℕ) (e : Event) (sound : Sound s 0) (room : s .max ≤ length m) (short : 17 ≤ length r) (comes : Comes (s .last) e) where
+  after : (onEvent s m r e .stepped .hid .max ≤ length (onEvent s m r e .message)) × (17 ≤ length (onEvent s m r e .reply)) × (onEvent s m r e .stepped .hid .last ≡ e .time)
+  after = subst (λ (x : Stepping). (x .stepped .hid .max ≤ length (x .message)) × (17 ≤ length (x .reply)) × (x .stepped .hid .last ≡ e .time)) (sym (step-is s m r e sound room short comes)) (heard-lengths s m r e room short)
+
+runs-from : (s : CtapHid) (m r : List ℕ) (es : List Event) → Sound s 0 → s .max ≤ length m → 17 ≤ length r → Come (s .last) es → runOf s m r es ≡ map answered (run (transportOf s m) es)
+runs-from s m r [] sound room short come = refl
+runs-from s m r (e ∷ es) sound room short come =
+    let x : Stepping = onEvent s m r e in
+    let ref = step-refines s m r e sound room short (come .0) in
+    let aft = after s m r e sound room short (come .0) in
+    let later : Come (x .stepped .hid .last) es = subst (λ (t : ℕ). Come t es) (sym (aft .2)) (come .1) in
+    let rest = runs-from (x .stepped .hid) (x .message) (x .reply) es (sound-stays s m r e sound room short (come .0)) (aft .0) (aft .1) later in
+    let alike : run (transportOf (x .stepped .hid) (x .message)) es ≡ run (step (transportOf s m) e .state) es = ap (λ (d : Transport). run d es) (ref .state) in
+    λ i. ref .answer i ∷ (rest ∙ ap (map answered) alike) i
+
+pub runs-alike : RunsAlike
+runs-alike max u2f m r es h room short come =
+    runs-from (freshHid max u2f) m r es (set-up-sound max u2f h) room short come
+    ∙ ap (λ (d : Transport). map answered (run d es)) (fresh-means max u2f m)
