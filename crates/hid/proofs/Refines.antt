@@ -350,22 +350,20 @@ kept-long s time disabled p m =
     t = receive (s .max) time (receiverOf (s .assembler) m) p
 
 -- what a step leaves for the next
-heard-lengths : (s : CtapHid) (m r : List ℕ) (e : Event) → s .max ≤ length m → 17 ≤ length r
-    → (heardOf s (e .time) (e .disabled) (read (e .packet)) m r .stepped .hid .max ≤ length (heardOf s (e .time) (e .disabled) (read (e .packet)) m r .message)) × (17 ≤ length (heardOf s (e .time) (e .disabled) (read (e .packet)) m r .reply)) × (heardOf s (e .time) (e .disabled) (read (e .packet)) m r .stepped .hid .last ≡ e .time)
+abbrev Lends : Stepping → ℕ → Type 0
+Lends x time = (x .stepped .hid .max ≤ length (x .message)) × (17 ≤ length (x .reply)) × (x .stepped .hid .last ≡ time)
+
+heard-lengths : (s : CtapHid) (m r : List ℕ) (e : Event) → s .max ≤ length m → 17 ≤ length r → Lends (heardOf s (e .time) (e .disabled) (read (e .packet)) m r) (e .time)
 unfolding heardOf servedOf
 heard-lengths s m r e room short =
     (omega (arith, kept-long s (e .time) (e .disabled) (read (e .packet)) m), omega (arith, replied-long (step (transportOf s m) e .answer) r), refl)
-
-module _ (s : CtapHid) (m r : List ℕ) (e : Event) (sound : Sound s 0) (room : s .max ≤ length m) (short : 17 ≤ length r) (comes : Comes (s .last) e) where
-  after : (onEvent s m r e .stepped .hid .max ≤ length (onEvent s m r e .message)) × (17 ≤ length (onEvent s m r e .reply)) × (onEvent s m r e .stepped .hid .last ≡ e .time)
-  after = subst (λ (x : Stepping). (x .stepped .hid .max ≤ length (x .message)) × (17 ≤ length (x .reply)) × (x .stepped .hid .last ≡ e .time)) (sym (step-is s m r e sound room short comes)) (heard-lengths s m r e room short)
 
 runs-from : (s : CtapHid) (m r : List ℕ) (es : List Event) → Sound s 0 → s .max ≤ length m → 17 ≤ length r → Come (s .last) es → runOf s m r es ≡ map answered (run (transportOf s m) es)
 runs-from s m r [] sound room short come = refl
 runs-from s m r (e ∷ es) sound room short come =
     let x : Stepping = onEvent s m r e in
     let ref = step-refines s m r e sound room short (come .0) in
-    let aft = after s m r e sound room short (come .0) in
+    let aft : Lends x (e .time) = subst (λ (y : Stepping). Lends y (e .time)) (sym (step-is s m r e sound room short (come .0))) (heard-lengths s m r e room short) in
     let later : Come (x .stepped .hid .last) es = subst (λ (t : ℕ). Come t es) (sym (aft .2)) (come .1) in
     let rest = runs-from (x .stepped .hid) (x .message) (x .reply) es (sound-stays s m r e sound room short (come .0)) (aft .0) (aft .1) later in
     let alike : run (transportOf (x .stepped .hid) (x .message)) es ≡ run (step (transportOf s m) e .state) es = ap (λ (d : Transport). run d es) (ref .state) in
@@ -375,3 +373,28 @@ pub runs-alike : RunsAlike
 runs-alike max u2f m r es h room short come =
     runs-from (freshHid max u2f) m r es (set-up-sound max u2f h) room short come
     ∙ ap (λ (d : Transport). map answered (run d es)) (fresh-means max u2f m)
+
+-- the same for the device
+abbrev MainLends : MainStepping → ℕ → Type 0
+MainLends x time = (x .stepped .hid .hid .max ≤ length (x .message)) × (17 ≤ length (x .reply)) × (x .stepped .hid .hid .last ≡ time)
+
+main-heard-lengths : (o : MainHid) (m r : List ℕ) (e : Event) → o .hid .max ≤ length m → 17 ≤ length r → MainLends (mainHeardOf o (e .time) (e .disabled) (read (e .packet)) m r) (e .time)
+unfolding mainHeardOf
+main-heard-lengths o m r e room short =
+    (omega (arith, kept-long (o .hid) (e .time) (e .disabled) (read (e .packet)) m), omega (arith, replied-long (deviceStep (deviceOf o m) e .answer) r), refl)
+
+main-runs-from : (o : MainHid) (m r : List ℕ) (es : List Event) → Sound (o .hid) (o .wink) → o .hid .max ≤ length m → 17 ≤ length r → Come (o .hid .last) es → mainRunOf o m r es ≡ map answered (deviceRun (deviceOf o m) es)
+main-runs-from o m r [] sound room short come = refl
+main-runs-from o m r (e ∷ es) sound room short come =
+    let x : MainStepping = mainOnEvent o m r e in
+    let ref = main-step-refines o m r e sound room short (come .0) in
+    let aft : MainLends x (e .time) = subst (λ (y : MainStepping). MainLends y (e .time)) (sym (main-step-is o m r e sound room short (come .0))) (main-heard-lengths o m r e room short) in
+    let later : Come (x .stepped .hid .hid .last) es = subst (λ (t : ℕ). Come t es) (sym (aft .2)) (come .1) in
+    let rest = main-runs-from (x .stepped .hid) (x .message) (x .reply) es (main-sound-stays o m r e sound room short (come .0)) (aft .0) (aft .1) later in
+    let alike : deviceRun (deviceOf (x .stepped .hid) (x .message)) es ≡ deviceRun (deviceStep (deviceOf o m) e .state) es = ap (λ (d : Device). deviceRun d es) (ref .state) in
+    λ i. ref .answer i ∷ (rest ∙ ap (map answered) alike) i
+
+pub main-runs-alike : MainRunsAlike
+main-runs-alike max u2f m r es h room short come =
+    main-runs-from (freshMain max u2f) m r es (set-up-sound max u2f h) room short come
+    ∙ ap (λ (d : Transport). map answered (deviceRun (device d 0) es)) (fresh-means max u2f m)
