@@ -5,3 +5,4 @@ pub mod Hearing
 pub mod Refusing
 pub mod Finishing
 pub mod Payloads
+pub mod Unique
