@@ -6,3 +6,4 @@ pub mod Refusing
 pub mod Finishing
 pub mod Payloads
 pub mod Refines
+pub mod Unique

@@ -66,6 +66,29 @@ impl MainHid {
     {
         running(self.hid, self.wink, time, self.wink)
     }
+
+    // The step over a lent state, which is left as it came where the call is refused.
+    pub fn process_hid_packet(
+        &mut self,
+        time: u64,
+        disabled: bool,
+        packet: &[u8],
+        message: &mut [u8],
+        reply: &mut [u8],
+    ) -> Answer
+        ensures { λ r. ⌜ mainStepping (record { hid = now (self .exit); answer = r }) (now (message .exit)) (now (reply .exit)) ≡ mainStepOf (now (self .entry)) time disabled (now (packet .entry)) (now (message .entry)) (now (reply .entry)) ⌝ }
+    {
+        let stepped = self.step(time, disabled, packet, message, reply);
+        *self = stepped.hid;
+        stepped.answer
+    }
+
+    // The question over a lent state.
+    pub fn should_wink(&self, time: u64) -> Running
+        ensures { λ r. ⌜ r ≡ winkingOf (now (self .entry)) time ⌝ }
+    {
+        self.is_winking_at(time)
+    }
 }
 
 // Check 8, for whatever the transport answered. Only nothing leaves a wink running.

@@ -233,6 +233,29 @@ impl CtapHid {
     {
         running(self, 0, time, self.lock)
     }
+
+    // The step over a lent state, which is left as it came where the call is refused.
+    pub fn parse_packet(
+        &mut self,
+        time: u64,
+        disabled: bool,
+        packet: &[u8],
+        message: &mut [u8],
+        reply: &mut [u8],
+    ) -> Answer
+        ensures { λ r. ⌜ stepping (record { hid = now (self .exit); answer = r }) (now (message .exit)) (now (reply .exit)) ≡ stepOf (now (self .entry)) time disabled (now (packet .entry)) (now (message .entry)) (now (reply .entry)) ⌝ }
+    {
+        let stepped = self.step(time, disabled, packet, message, reply);
+        *self = stepped.hid;
+        stepped.answer
+    }
+
+    // The question over a lent state.
+    pub fn has_channel_lock(&self, time: u64) -> Running
+        ensures { λ r. ⌜ r ≡ lockedOf (now (self .entry)) time ⌝ }
+    {
+        self.is_locked_at(time)
+    }
 }
 
 pub(crate) fn fresh(max: u32, u2f: bool) -> CtapHid
