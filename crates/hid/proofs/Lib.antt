@@ -7,3 +7,4 @@ pub mod Finishing
 pub mod Payloads
 pub mod Refines
 pub mod Unique
+pub mod UniqueMain

@@ -160,9 +160,10 @@ module _ (s : CtapHid) (wink time : ℕ) (disabled : Bool) (p : Packet) (m : Lis
   served-right : isValid (s .allocated) p ≡ true → Right (serve d time p) (buffered (receive (s .max) time (receiverOf (s .assembler) m) p) m)
   served-right valid =
       let t : Turn = receive (s .max) time (receiverOf (s .assembler) m) p in
-      let ts = turns-valid d time p holds formed valid in
-      (subst (λ (y : Receiver). Stands y (buffered t m)) (sym (same-receiver (withReceiver d (t .receiver)) time (channelOf p) (t .reception))) (stands-buffered (s .max) (s .allocated) time (t .receiver) (t .reception) m (ts .receives)),
-      carried-settle d (s .max) (s .allocated) time (channelOf p) (t .receiver) (t .reception) m (ts .tells))
+      let ts = turns-valid d time p holds formed valid in (
+        subst (λ (y : Receiver). Stands y (buffered t m)) (sym (same-receiver (withReceiver d (t .receiver)) time (channelOf p) (t .reception))) (stands-buffered (s .max) (s .allocated) time (t .receiver) (t .reception) m (ts .receives)),
+        carried-settle d (s .max) (s .allocated) time (channelOf p) (t .receiver) (t .reception) m (ts .tells),
+      )
 
   heard-right : Right (hear d time disabled p) (messageAfter s time disabled p m)
   unfolding hear messageAfter
@@ -185,15 +186,17 @@ module _ (s : CtapHid) (wink time : ℕ) (disabled : Bool) (p : Packet) (m : Lis
   -- and is sound
   sound-of : (rcv : Receiver) (max n : ℕ) → invariant.Receives max n time rcv → (assemblerOf rcv .deadline ≤ time + 100) × ((assemblerOf rcv .len ≡ 0 → ⊥) → Transacts max n (assemblerOf rcv))
   sound-of idle max n h = (omega arith, λ z. absurd (z refl))
-  sound-of (busy t) max n h =
-      (h .deadline, λ z. record {
-        command = h .command;
-        long = omega (arith, h .below, h .bytes);
-        most = h .most;
-        below = omega (arith, h .below, h .bytes);
-        bytes = sym (h .bytes);
-        channel = h .channel;
-      })
+  sound-of (busy t) max n h = (
+    h .deadline,
+    λ z. record {
+      command = h .command;
+      long = omega (arith, h .below, h .bytes);
+      most = h .most;
+      below = omega (arith, h .below, h .bytes);
+      bytes = sym (h .bytes);
+      channel = h .channel;
+    },
+  )
 
   state-sound : (until : ℕ) → time ≤ 0xffff_ffff_ffff → until ≤ time + 5000 → Sound (stateOf s time (hear d time disabled p .state)) until
   state-sound until early winks =

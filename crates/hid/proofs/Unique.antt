@@ -1,4 +1,4 @@
--- Each public contract leaves one outcome: the answer, and the state and both buffers at exit where they are lent. Assumes nothing.
+-- Each public contract of the transport leaves one outcome: the answer, and the state and both buffers at exit where they are lent. Assumes nothing.
 use mathlib.Core.Path.{refl, sym, ap, _∙_}
 use mathlib.Core.List.{List}
 use Prim.Native.Nat.{ℕ}
@@ -8,28 +8,22 @@ use denote.Triple.Entry.{Args}
 use denote.Triple.Clauses.{Lasts}
 use Rattle.outcome.specs.One.{OneOutcome, OneOutcomeFrom, from-facts}
 use Rattle.hid.specs.Serving.{Stepping}
-use Rattle.hid.specs.Outer.{MainStepping}
 use Rattle.hid.proofs.channels.echo as echo
 use Rattle.hid.proofs.parts.payload as payload
-use Rattle.hid.proofs.CtapHid.new as hid-new
-use Rattle.hid.proofs.CtapHid.step as hid-step
+use Rattle.hid.proofs.CtapHid.new as new
+use Rattle.hid.proofs.CtapHid.step as step
 use Rattle.hid.proofs.CtapHid.is_locked_at as is-locked-at
 use Rattle.hid.proofs.CtapHid.parse_packet as parse-packet
 use Rattle.hid.proofs.CtapHid.has_channel_lock as has-channel-lock
-use Rattle.hid.proofs.MainHid.new as main-new
-use Rattle.hid.proofs.MainHid.step as main-step
-use Rattle.hid.proofs.MainHid.is_winking_at as is-winking-at
-use Rattle.hid.proofs.MainHid.process_hid_packet as process-hid-packet
-use Rattle.hid.proofs.MainHid.should_wink as should-wink
 
-pub hid-new-one : OneOutcome hid-new.ended (λ M 𝓤. hid-new.clauses 𝓤) (λ M 𝓤. hid-new.spec 𝓤)
-hid-new-one = record {
+pub new-one : OneOutcome new.ended (λ M 𝓤. new.clauses 𝓤) (λ M 𝓤. new.spec 𝓤)
+new-one = record {
   stated = λ M 𝓤 H A mem run. refl;
   one = λ 𝓤 H A mem run κs a g x y v w. from-facts 𝓤 (λ p q. (p ∙ sym q, refl));
 }
 
-pub hid-step-one : OneOutcome hid-step.ended (λ M 𝓤. hid-step.clauses 𝓤) (λ M 𝓤. hid-step.spec 𝓤)
-hid-step-one = record {
+pub step-one : OneOutcome step.ended (λ M 𝓤. step.clauses 𝓤) (λ M 𝓤. step.spec 𝓤)
+step-one = record {
   stated = λ M 𝓤 H A mem run. refl;
   one = λ 𝓤 H A mem run κs a g x y v w. from-facts 𝓤 (λ p q. (ap (λ (o : Stepping). o .stepped) (p ∙ sym q), λ i. (tt, (tt, (tt, (tt, ((p ∙ sym q) i .message, ((p ∙ sym q) i .reply, tt))))))));
 }
@@ -48,37 +42,6 @@ parse-packet-one = record {
 
 pub has-channel-lock-one : OneOutcome has-channel-lock.ended (λ M 𝓤. has-channel-lock.clauses 𝓤) (λ M 𝓤. has-channel-lock.spec 𝓤)
 has-channel-lock-one = record {
-  stated = λ M 𝓤 H A mem run. refl;
-  one = λ 𝓤 H A mem run κs a g x y v w. from-facts 𝓤 (λ p q. (p ∙ sym q, refl));
-}
-
--- ---- the device
-pub main-new-one : OneOutcome main-new.ended (λ M 𝓤. main-new.clauses 𝓤) (λ M 𝓤. main-new.spec 𝓤)
-main-new-one = record {
-  stated = λ M 𝓤 H A mem run. refl;
-  one = λ 𝓤 H A mem run κs a g x y v w. from-facts 𝓤 (λ p q. (p ∙ sym q, refl));
-}
-
-pub main-step-one : OneOutcome main-step.ended (λ M 𝓤. main-step.clauses 𝓤) (λ M 𝓤. main-step.spec 𝓤)
-main-step-one = record {
-  stated = λ M 𝓤 H A mem run. refl;
-  one = λ 𝓤 H A mem run κs a g x y v w. from-facts 𝓤 (λ p q. (ap (λ (o : MainStepping). o .stepped) (p ∙ sym q), λ i. (tt, (tt, (tt, (tt, ((p ∙ sym q) i .message, ((p ∙ sym q) i .reply, tt))))))));
-}
-
-pub is-winking-at-one : OneOutcome is-winking-at.ended (λ M 𝓤. is-winking-at.clauses 𝓤) (λ M 𝓤. is-winking-at.spec 𝓤)
-is-winking-at-one = record {
-  stated = λ M 𝓤 H A mem run. refl;
-  one = λ 𝓤 H A mem run κs a g x y v w. from-facts 𝓤 (λ p q. (p ∙ sym q, refl));
-}
-
-pub process-hid-packet-one : OneOutcome process-hid-packet.ended (λ M 𝓤. process-hid-packet.clauses 𝓤) (λ M 𝓤. process-hid-packet.spec 𝓤)
-process-hid-packet-one = record {
-  stated = λ M 𝓤 H A mem run. refl;
-  one = λ 𝓤 H A mem run κs a g x y v w. from-facts 𝓤 (λ p q. (ap (λ (o : MainStepping). o .stepped .answer) (p ∙ sym q), λ i. ((p ∙ sym q) i .stepped .hid, (tt, (tt, (tt, ((p ∙ sym q) i .message, ((p ∙ sym q) i .reply, tt))))))));
-}
-
-pub should-wink-one : OneOutcome should-wink.ended (λ M 𝓤. should-wink.clauses 𝓤) (λ M 𝓤. should-wink.spec 𝓤)
-should-wink-one = record {
   stated = λ M 𝓤 H A mem run. refl;
   one = λ 𝓤 H A mem run κs a g x y v w. from-facts 𝓤 (λ p q. (p ∙ sym q, refl));
 }
