@@ -8,3 +8,4 @@ pub mod Limits
 pub mod Receiver
 pub mod Transport
 pub mod Device
+pub mod Demands
