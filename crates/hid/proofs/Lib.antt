@@ -8,3 +8,4 @@ pub mod Payloads
 pub mod Refines
 pub mod Unique
 pub mod UniqueMain
+pub mod Carrying

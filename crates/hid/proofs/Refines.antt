@@ -242,7 +242,7 @@ pub sound-stays : SoundStays
 sound-stays s m r e sound room short comes = subst (λ (x : Stepping). Sound (x .stepped .hid) 0) (sym (step-is s m r e sound room short comes)) (stays-sound s m r e sound room short comes)
 
 -- set-up means the standard's
-fresh-means : (max : ℕ) (u2f : Bool) (m : List ℕ) → transportOf (freshHid max u2f) m ≡ fresh (record { maximum = max; u2f = u2f })
+pub fresh-means : (max : ℕ) (u2f : Bool) (m : List ℕ) → transportOf (freshHid max u2f) m ≡ fresh (record { maximum = max; u2f = u2f })
 unfolding receiverOf pick
 fresh-means max true m = refl
 fresh-means max false m = refl
@@ -353,7 +353,7 @@ kept-long s time disabled p m =
     t = receive (s .max) time (receiverOf (s .assembler) m) p
 
 -- what a step leaves for the next
-abbrev Lends : Stepping → ℕ → Type 0
+abbrev pub Lends : Stepping → ℕ → Type 0
 Lends x time = (x .stepped .hid .max ≤ length (x .message)) × (17 ≤ length (x .reply)) × (x .stepped .hid .last ≡ time)
 
 heard-lengths : (s : CtapHid) (m r : List ℕ) (e : Event) → s .max ≤ length m → 17 ≤ length r → Lends (heardOf s (e .time) (e .disabled) (read (e .packet)) m r) (e .time)
@@ -361,12 +361,15 @@ unfolding heardOf servedOf
 heard-lengths s m r e room short =
     (omega (arith, kept-long s (e .time) (e .disabled) (read (e .packet)) m), omega (arith, replied-long (step (transportOf s m) e .answer) r), refl)
 
+pub lends : (s : CtapHid) (m r : List ℕ) (e : Event) → Sound s 0 → s .max ≤ length m → 17 ≤ length r → Comes (s .last) e → Lends (onEvent s m r e) (e .time)
+lends s m r e sound room short comes = subst (λ (y : Stepping). Lends y (e .time)) (sym (step-is s m r e sound room short comes)) (heard-lengths s m r e room short)
+
 runs-from : (s : CtapHid) (m r : List ℕ) (es : List Event) → Sound s 0 → s .max ≤ length m → 17 ≤ length r → Come (s .last) es → runOf s m r es ≡ map answered (run (transportOf s m) es)
 runs-from s m r [] sound room short come = refl
 runs-from s m r (e ∷ es) sound room short come =
     let x : Stepping = onEvent s m r e in
     let ref = step-refines s m r e sound room short (come .0) in
-    let aft : Lends x (e .time) = subst (λ (y : Stepping). Lends y (e .time)) (sym (step-is s m r e sound room short (come .0))) (heard-lengths s m r e room short) in
+    let aft = lends s m r e sound room short (come .0) in
     let later : Come (x .stepped .hid .last) es = subst (λ (t : ℕ). Come t es) (sym (aft .2)) (come .1) in
     let rest = runs-from (x .stepped .hid) (x .message) (x .reply) es (sound-stays s m r e sound room short (come .0)) (aft .0) (aft .1) later in
     let alike : run (transportOf (x .stepped .hid) (x .message)) es ≡ run (step (transportOf s m) e .state) es = ap (λ (d : Transport). run d es) (ref .state) in

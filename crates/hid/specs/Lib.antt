@@ -5,3 +5,4 @@ pub mod Serving
 pub mod Asking
 pub mod Outer
 pub mod Refining
+pub mod Carrying
