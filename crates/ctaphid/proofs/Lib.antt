@@ -7,3 +7,4 @@ pub mod Transport
 pub mod Invariant
 pub mod Steps
 pub mod Deliver
+pub mod Carried
