@@ -8,3 +8,5 @@ pub mod Invariant
 pub mod Steps
 pub mod Deliver
 pub mod Carried
+pub mod Instances
+pub mod WrongDelivery
