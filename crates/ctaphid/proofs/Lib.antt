@@ -5,3 +5,8 @@ pub mod Splitting
 pub mod Messages
 pub mod Transport
 pub mod Invariant
+pub mod Steps
+pub mod Deliver
+pub mod Carried
+pub mod Instances
+pub mod WrongDelivery
