@@ -113,10 +113,8 @@ pub fn transport_step(
     let stepped = hid.step(time, disabled != 0, packet, message, reply);
     let answer = stepped.answer;
     let outcome = outcome_of(answer);
-    FlatHid {
-        hid: stepped.hid,
-        outcome,
-    }
+    let next = stepped.hid;
+    FlatHid { hid: next, outcome }
 }
 
 pub struct FlatMain {
@@ -137,10 +135,8 @@ pub fn device_step(
     let stepped = hid.step(time, disabled != 0, packet, message, reply);
     let answer = stepped.answer;
     let outcome = outcome_of(answer);
-    FlatMain {
-        hid: stepped.hid,
-        outcome,
-    }
+    let next = stepped.hid;
+    FlatMain { hid: next, outcome }
 }
 
 // 0 for no, 1 for yes, else the refusal's number, 3 or 4.
