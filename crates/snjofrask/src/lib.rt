@@ -1,0 +1,128 @@
+// The static library's entries, for C and Rust. Each is thin over the same by value; flags are numbers, of which 0 is not set.
+use flat::Outcome;
+use hid::CtapHid;
+use hid::MainHid;
+ghost use mathlib.Core.Path.{_≡_};
+ghost use Rattle.hid.specs.Serving.{stepOf};
+ghost use Rattle.hid.specs.Outer.{mainStepOf};
+ghost use Rattle.hid.specs.Asking.{lockedOf, winkingOf, newOf, mainNewOf};
+ghost use Rattle.packet.specs.Reading.{readingOf};
+ghost use Rattle.send.specs.Sending.{countOf, writeOf, splitOf};
+ghost use Rattle.flat.specs.Telling.{isSet, readOutcome, countOutcome, runningNumber, madeOf, mainMadeOf, flat, flatOf, mainFlat, mainFlatOf, put, putOf};
+
+// ---- the transport: checks 1 to 7
+
+// A fresh transport, with the largest message that it takes. 0, or refusal 5, which leaves hid as it came.
+#[no_mangle]
+pub extern "C" fn snjofrask_transport_new(hid: &mut CtapHid, max: usize, u2f: u8) -> u8
+    ensures { λ r. ⌜ record { hid = now (hid .exit); refusal = r } ≡ madeOf (now (hid .entry)) (newOf max (isSet u2f)) ⌝ }
+{
+    let made = flat::transport_new(*hid, max, u2f);
+    *hid = made.hid;
+    made.refusal
+}
+
+// A packet at a time in milliseconds. A refused step leaves hid and both buffers as they came.
+#[no_mangle]
+pub extern "C" fn snjofrask_transport_step(
+    hid: &mut CtapHid,
+    time: u64,
+    disabled: u8,
+    packet: &[u8],
+    message: &mut [u8],
+    reply: &mut [u8],
+) -> Outcome
+    ensures { λ r. ⌜ flat (record { hid = now (hid .exit); outcome = r }) (now (message .exit)) (now (reply .exit)) ≡ flatOf (stepOf (now (hid .entry)) time (isSet disabled) (now (packet .entry)) (now (message .entry)) (now (reply .entry))) ⌝ }
+{
+    let stepped = flat::transport_step(*hid, time, disabled, packet, message, reply);
+    *hid = stepped.hid;
+    stepped.outcome
+}
+
+// Whether a lock runs: 0 no, 1 yes, or refusal 3 or 4.
+#[no_mangle]
+pub extern "C" fn snjofrask_is_locked(hid: &CtapHid, time: u64) -> u8
+    ensures { λ r. ⌜ r ≡ runningNumber (lockedOf (now (hid .entry)) time) ⌝ }
+{
+    flat::is_locked(*hid, time)
+}
+
+// ---- the device: checks 1 to 8
+
+#[no_mangle]
+pub extern "C" fn snjofrask_device_new(hid: &mut MainHid, max: usize, u2f: u8) -> u8
+    ensures { λ r. ⌜ record { hid = now (hid .exit); refusal = r } ≡ mainMadeOf (now (hid .entry)) (mainNewOf max (isSet u2f)) ⌝ }
+{
+    let made = flat::device_new(*hid, max, u2f);
+    *hid = made.hid;
+    made.refusal
+}
+
+#[no_mangle]
+pub extern "C" fn snjofrask_device_step(
+    hid: &mut MainHid,
+    time: u64,
+    disabled: u8,
+    packet: &[u8],
+    message: &mut [u8],
+    reply: &mut [u8],
+) -> Outcome
+    ensures { λ r. ⌜ mainFlat (record { hid = now (hid .exit); outcome = r }) (now (message .exit)) (now (reply .exit)) ≡ mainFlatOf (mainStepOf (now (hid .entry)) time (isSet disabled) (now (packet .entry)) (now (message .entry)) (now (reply .entry))) ⌝ }
+{
+    let stepped = flat::device_step(*hid, time, disabled, packet, message, reply);
+    *hid = stepped.hid;
+    stepped.outcome
+}
+
+// Whether a wink runs: 0 no, 1 yes, or refusal 3 or 4.
+#[no_mangle]
+pub extern "C" fn snjofrask_is_winking(hid: &MainHid, time: u64) -> u8
+    ensures { λ r. ⌜ r ≡ runningNumber (winkingOf (now (hid .entry)) time) ⌝ }
+{
+    flat::is_winking(*hid, time)
+}
+
+// ---- packets
+
+#[no_mangle]
+pub extern "C" fn snjofrask_read_packet(packet: &[u8]) -> Outcome
+    ensures { λ r. ⌜ r ≡ readOutcome (readingOf (now (packet .entry))) ⌝ }
+{
+    flat::read_packet(packet)
+}
+
+#[no_mangle]
+pub extern "C" fn snjofrask_packet_count(len: usize) -> Outcome
+    ensures { λ r. ⌜ r ≡ countOutcome (countOf len) ⌝ }
+{
+    flat::packet_count(len)
+}
+
+// 0, or refusal 1, 12, 7 or 6, which leaves the packet as it came.
+#[no_mangle]
+pub extern "C" fn snjofrask_write_packet(
+    cid: u32,
+    cmd: u8,
+    payload: &[u8],
+    index: usize,
+    packet: &mut [u8],
+) -> u8
+    ensures { λ r. ⌜ put r (now (packet .exit)) ≡ putOf (writeOf cid cmd (now (payload .entry)) index (now (packet .entry))) ⌝ }
+{
+    flat::write_packet(cid, cmd, payload, index, packet)
+}
+
+// The same for a reply of any length: one that is too long becomes CBOR with the byte given.
+#[no_mangle]
+pub extern "C" fn snjofrask_split_message(
+    cid: u32,
+    cmd: u8,
+    payload: &[u8],
+    internal_error: u8,
+    index: usize,
+    packet: &mut [u8],
+) -> u8
+    ensures { λ r. ⌜ put r (now (packet .exit)) ≡ putOf (splitOf cid cmd (now (payload .entry)) «internal_error» index (now (packet .entry))) ⌝ }
+{
+    flat::split_message(cid, cmd, payload, internal_error, index, packet)
+}
