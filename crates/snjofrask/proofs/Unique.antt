@@ -1,0 +1,76 @@
+-- Each entry's contract leaves one outcome: what it returns, and the state and the lent bytes at exit. Assumes nothing.
+use mathlib.Core.Path.{refl, sym, ap, _∙_}
+use Rattle.outcome.specs.One.{OneOutcome, from-facts}
+use Rattle.flat.specs.Telling.{Flattened, MainFlattened, Putting}
+use Rattle.flat.specs.declared.MadeHid.{MadeHid}
+use Rattle.flat.specs.declared.MadeMain.{MadeMain}
+use Rattle.snjofrask.proofs.snjofrask_transport_new as transport-new
+use Rattle.snjofrask.proofs.snjofrask_transport_step as transport-step
+use Rattle.snjofrask.proofs.snjofrask_is_locked as is-locked
+use Rattle.snjofrask.proofs.snjofrask_device_new as device-new
+use Rattle.snjofrask.proofs.snjofrask_device_step as device-step
+use Rattle.snjofrask.proofs.snjofrask_is_winking as is-winking
+use Rattle.snjofrask.proofs.snjofrask_read_packet as read-packet
+use Rattle.snjofrask.proofs.snjofrask_packet_count as packet-count
+use Rattle.snjofrask.proofs.snjofrask_write_packet as write-packet
+use Rattle.snjofrask.proofs.snjofrask_split_message as split-message
+
+pub snjofrask-transport-new-one : OneOutcome transport-new.ended (λ M 𝓤. transport-new.clauses 𝓤) (λ M 𝓤. transport-new.spec 𝓤)
+snjofrask-transport-new-one = record {
+  stated = λ M 𝓤 H A mem run. refl;
+  one = λ 𝓤 H A mem run κs a g x y v w. from-facts 𝓤 (λ p q. (ap (λ (o : MadeHid). o .refusal) (p ∙ sym q), λ i. ((p ∙ sym q) i .hid, (tt, (tt, tt)))));
+}
+
+pub snjofrask-transport-step-one : OneOutcome transport-step.ended (λ M 𝓤. transport-step.clauses 𝓤) (λ M 𝓤. transport-step.spec 𝓤)
+snjofrask-transport-step-one = record {
+  stated = λ M 𝓤 H A mem run. refl;
+  one = λ 𝓤 H A mem run κs a g x y v w. from-facts 𝓤 (λ p q. (ap (λ (o : Flattened). o .left .outcome) (p ∙ sym q), λ i. ((p ∙ sym q) i .left .hid, (tt, (tt, (tt, ((p ∙ sym q) i .message, ((p ∙ sym q) i .reply, tt))))))));
+}
+
+pub snjofrask-is-locked-one : OneOutcome is-locked.ended (λ M 𝓤. is-locked.clauses 𝓤) (λ M 𝓤. is-locked.spec 𝓤)
+snjofrask-is-locked-one = record {
+  stated = λ M 𝓤 H A mem run. refl;
+  one = λ 𝓤 H A mem run κs a g x y v w. from-facts 𝓤 (λ p q. (p ∙ sym q, refl));
+}
+
+pub snjofrask-device-new-one : OneOutcome device-new.ended (λ M 𝓤. device-new.clauses 𝓤) (λ M 𝓤. device-new.spec 𝓤)
+snjofrask-device-new-one = record {
+  stated = λ M 𝓤 H A mem run. refl;
+  one = λ 𝓤 H A mem run κs a g x y v w. from-facts 𝓤 (λ p q. (ap (λ (o : MadeMain). o .refusal) (p ∙ sym q), λ i. ((p ∙ sym q) i .hid, (tt, (tt, tt)))));
+}
+
+pub snjofrask-device-step-one : OneOutcome device-step.ended (λ M 𝓤. device-step.clauses 𝓤) (λ M 𝓤. device-step.spec 𝓤)
+snjofrask-device-step-one = record {
+  stated = λ M 𝓤 H A mem run. refl;
+  one = λ 𝓤 H A mem run κs a g x y v w. from-facts 𝓤 (λ p q. (ap (λ (o : MainFlattened). o .left .outcome) (p ∙ sym q), λ i. ((p ∙ sym q) i .left .hid, (tt, (tt, (tt, ((p ∙ sym q) i .message, ((p ∙ sym q) i .reply, tt))))))));
+}
+
+pub snjofrask-is-winking-one : OneOutcome is-winking.ended (λ M 𝓤. is-winking.clauses 𝓤) (λ M 𝓤. is-winking.spec 𝓤)
+snjofrask-is-winking-one = record {
+  stated = λ M 𝓤 H A mem run. refl;
+  one = λ 𝓤 H A mem run κs a g x y v w. from-facts 𝓤 (λ p q. (p ∙ sym q, refl));
+}
+
+pub snjofrask-read-packet-one : OneOutcome read-packet.ended (λ M 𝓤. read-packet.clauses 𝓤) (λ M 𝓤. read-packet.spec 𝓤)
+snjofrask-read-packet-one = record {
+  stated = λ M 𝓤 H A mem run. refl;
+  one = λ 𝓤 H A mem run κs a g x y v w. from-facts 𝓤 (λ p q. (p ∙ sym q, refl));
+}
+
+pub snjofrask-packet-count-one : OneOutcome packet-count.ended (λ M 𝓤. packet-count.clauses 𝓤) (λ M 𝓤. packet-count.spec 𝓤)
+snjofrask-packet-count-one = record {
+  stated = λ M 𝓤 H A mem run. refl;
+  one = λ 𝓤 H A mem run κs a g x y v w. from-facts 𝓤 (λ p q. (p ∙ sym q, refl));
+}
+
+pub snjofrask-write-packet-one : OneOutcome write-packet.ended (λ M 𝓤. write-packet.clauses 𝓤) (λ M 𝓤. write-packet.spec 𝓤)
+snjofrask-write-packet-one = record {
+  stated = λ M 𝓤 H A mem run. refl;
+  one = λ 𝓤 H A mem run κs a g x y v w. from-facts 𝓤 (λ p q. (ap (λ (o : Putting). o .number) (p ∙ sym q), λ i. (tt, (tt, (tt, (tt, ((p ∙ sym q) i .packet, tt)))))));
+}
+
+pub snjofrask-split-message-one : OneOutcome split-message.ended (λ M 𝓤. split-message.clauses 𝓤) (λ M 𝓤. split-message.spec 𝓤)
+snjofrask-split-message-one = record {
+  stated = λ M 𝓤 H A mem run. refl;
+  one = λ 𝓤 H A mem run κs a g x y v w. from-facts 𝓤 (λ p q. (ap (λ (o : Putting). o .number) (p ∙ sym q), λ i. (tt, (tt, (tt, (tt, (tt, ((p ∙ sym q) i .packet, tt))))))));
+}
