@@ -5,3 +5,5 @@ pub mod Splitting
 pub mod Messages
 pub mod Transport
 pub mod Invariant
+pub mod Histories
+pub mod Bounds
