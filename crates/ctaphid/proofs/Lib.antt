@@ -7,3 +7,4 @@ pub mod Transport
 pub mod Invariant
 pub mod Histories
 pub mod Bounds
+pub mod Shut
