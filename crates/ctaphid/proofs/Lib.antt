@@ -8,3 +8,4 @@ pub mod Invariant
 pub mod Histories
 pub mod Bounds
 pub mod Shut
+pub mod CarriedBounds
