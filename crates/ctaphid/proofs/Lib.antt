@@ -9,3 +9,5 @@ pub mod Histories
 pub mod Bounds
 pub mod Shut
 pub mod CarriedBounds
+pub mod InstancesBounds
+pub mod Sharp
