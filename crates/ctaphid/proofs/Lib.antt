@@ -11,3 +11,4 @@ pub mod Shut
 pub mod CarriedBounds
 pub mod InstancesBounds
 pub mod Sharp
+pub mod WrongBounds
