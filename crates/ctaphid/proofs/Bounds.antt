@@ -4,21 +4,20 @@ use Prim.Native.Nat.{ℕ, _+_, _*_, _≤_, _<_}
 use native.Mathlib.Omega.{arith}
 use mathlib.Core.Path.{_≡_, refl, ap, sym, subst, _∙_}
 use mathlib.Core.List.{List, [], _∷_, _++_}
-use mathlib.Core.Bool.{Bool, true, false, true≢false}
+use mathlib.Core.Bool.{Bool, true, true≢false}
 use mathlib.Core.Logic.{_⊎_, inl, inr, ⊎-elim}
 use borrow.Author.Tests.{ltb-true, ltb-false, leb-false, eqb-true, eqb-false}
 use lib.Dec.{ltb, leb, eqb}
-use lib.ListN.{length, take, getD, length-append}
+use lib.ListN.{length, take, getD}
 use lib.Seq.{length-take-le}
 use Rattle.ctaphid.specs.Choice.{pick}
-use Rattle.ctaphid.specs.Packets.{Packet, initialization, continuation, read, Formed}
+use Rattle.ctaphid.specs.Packets.{Packet, initialization, continuation, read}
 use Rattle.ctaphid.specs.Commands.{Command, MSG, CBOR, INIT, PING, CANCEL, ERROR, KEEPALIVE, WINK, LOCK, number, commandOf, commands}
-use Rattle.ctaphid.specs.Errors.{Error, InvalidCmd, InvalidPar, InvalidLen, ChannelBusy, InvalidChannel, code}
+use Rattle.ctaphid.specs.Errors.{Error, InvalidCmd, InvalidPar, InvalidLen, ChannelBusy, code}
 use Rattle.ctaphid.specs.Receiver.{Transaction, Receiver, idle, busy, Reception, silent, fault, whole, Turn, channelOf, collect, start, whenIdle, whenOver, onOwn, whenBusy, receive, isOn}
-use Rattle.ctaphid.specs.Transport.{Settings, Lock, free, Transport, Event, Answer, nothing, reply, request, Next, next, error, isValid, notValid, isLocked, isLockedBy, isShut, onInit, lockFor, onLock, dispatch, settle, settled, serve, hear, withReceiver}
-use Rattle.ctaphid.specs.Demands.{standard, Proper, Taken, latest, after, answer, Begun, Since, TransactionsEndWithin, TransactionsEnd, Locked, Holding, LocksEnd}
+use Rattle.ctaphid.specs.Transport.{Settings, Lock, Transport, Event, Answer, nothing, reply, request, Next, error, notValid, isLocked, isLockedBy, onInit, lockFor, onLock, dispatch, settle, hear, withReceiver}
+use Rattle.ctaphid.specs.Demands.{standard, Taken, latest, after, answer, Begun, Since, TransactionsEndWithin, TransactionsEnd, Locked, LocksEnd}
 use Rattle.ctaphid.proofs.Tests.{pick-true, pick-both, pick-known}
-use Rattle.ctaphid.proofs.Packets.{read-formed}
 use Rattle.ctaphid.proofs.Invariant.{Runs, Receives, Holds, holds-later, among-lock, keeps-dispatch}
 use Rattle.ctaphid.proofs.Histories.{settings-after, holds-after, IsFirst, first-read, read-is-first, on-read, AsksFor, asks-lock}
 

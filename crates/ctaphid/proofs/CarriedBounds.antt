@@ -1,8 +1,8 @@
 -- That transactions and locks end and that no one is shut out, carried to any device that answers as the standard's transport does. Assumes nothing.
 use Prim.Native.Nat.{ℕ, _≤_}
-use mathlib.Core.Path.{_≡_, sym, _∙_}
+use mathlib.Core.Path.{sym, _∙_}
 use mathlib.Core.List.{List, [], _∷_}
-use mathlib.Core.Logic.{_⊎_, inl, inr, ⊎-elim}
+use mathlib.Core.Logic.{inl, inr, ⊎-elim}
 use Rattle.ctaphid.specs.Transport.{Settings, Event}
 use Rattle.ctaphid.specs.Demands.{AnyDevice, standard, Taken, on, Begun, Since, TransactionsEndWithin, TransactionsEnd, Locked, Holding, LocksEnd, Against, Honest, HeldBy, NoneShutOut, Agrees, AnswersAlike}
 use Rattle.ctaphid.proofs.Bounds.{transactions-end-sharp, transactions-end, locks-end}

@@ -1,15 +1,14 @@
 -- Histories of the standard's transport: what holds after each one, and what the bytes of an event say of its packet. Assumes nothing.
-use Prim.Native.Nat.{ℕ, _+_, _-_, _*_, _≤_, _<_}
+use Prim.Native.Nat.{ℕ, _-_, _≤_}
 use native.Mathlib.Omega.{arith}
 use native.Mathlib.Decide.{decLe}
-use mathlib.Core.Path.{_≡_, refl, sym, subst, ap, _∙_}
+use mathlib.Core.Path.{_≡_, refl, sym, subst, _∙_}
 use mathlib.Core.List.{List, [], _∷_}
-use lib.ListN.{length, getD, drop}
+use lib.ListN.{getD, drop}
 use lib.Seq.{getD-drop}
-use Rattle.ctaphid.specs.Choice.{pick}
 use Rattle.ctaphid.specs.Packets.{Packet, initialization, continuation, byte, channelIn, declaredIn, read}
 use Rattle.ctaphid.specs.Receiver.{channelOf}
-use Rattle.ctaphid.specs.Transport.{Settings, Transport, Event}
+use Rattle.ctaphid.specs.Transport.{Settings, Event}
 use Rattle.ctaphid.specs.Demands.{standard, Taken, latest, after, on, First, AsksLock}
 use Rattle.ctaphid.proofs.Tests.{pick-both}
 use Rattle.ctaphid.proofs.Packets.{read-first, read-later, read-formed}

@@ -1,18 +1,18 @@
 -- Runs that meet the premises of what bounds transactions and locks, computed. Assumes nothing.
-use Prim.Native.Nat.{ℕ, zero, suc, _+_, _-_, _*_, _≤_, _<_}
+use Prim.Native.Nat.{ℕ, zero, suc, _-_, _≤_}
 use native.Mathlib.Omega.{arith}
-use mathlib.Core.Path.{_≡_, refl, sym}
+use mathlib.Core.Path.{_≡_, refl}
 use mathlib.Core.List.{List, [], _∷_, _++_}
-use mathlib.Core.Bool.{Bool, true, false, true≢false}
+use mathlib.Core.Bool.{Bool, true, false}
 use borrow.Author.Tests.{ltb-true}
 use lib.Dec.{ltb}
-use lib.ListN.{length, getD, replicate}
+use lib.ListN.{length, replicate}
 use Rattle.ctaphid.specs.Choice.{pick}
 use Rattle.ctaphid.specs.Packets.{Bytes, channelIn, declaredIn, read}
 use Rattle.ctaphid.specs.Commands.{PING, among}
-use Rattle.ctaphid.specs.Receiver.{collect, start, whenIdle, whenOver, onOwn, whenBusy, receive, isOn}
+use Rattle.ctaphid.specs.Receiver.{collect, start, whenIdle, whenOver, whenBusy, receive, isOn}
 use Rattle.ctaphid.specs.Transport.{Settings, Event, reply, isAllocated, isValid, isLockedBy, isLockedAgainst, isShut, nextChannel, onInit, lockFor, onLock, dispatch, settle, hear}
-use Rattle.ctaphid.specs.Demands.{standard, Proper, Taken, latest, after, answer, Since, Holding, busyOn, HeldBy}
+use Rattle.ctaphid.specs.Demands.{standard, Proper, Taken, after, answer, Since, Holding, busyOn, HeldBy}
 use Rattle.ctaphid.proofs.Tests.{pick-true}
 use Rattle.ctaphid.proofs.Bounds.{transactions-end-sharp, transactions-end, locks-end}
 use Rattle.ctaphid.proofs.Shut.{none-shut-out}

@@ -1,17 +1,17 @@
 -- The longest transaction: 12,673 ms is the least bound. Assumes nothing.
-use Prim.Native.Nat.{ℕ, zero, suc, _+_, _*_, _≤_, _<_}
+use Prim.Native.Nat.{ℕ, zero, suc, _+_, _*_, _≤_}
 use native.Mathlib.Omega.{arith}
 use mathlib.Core.Path.{_≡_, refl, sym}
 use mathlib.Core.List.{List, [], _∷_, _++_}
-use mathlib.Core.Bool.{Bool, true, false}
+use mathlib.Core.Bool.{true, false}
 use mathlib.Core.Logic.{inl, inr}
 use borrow.Author.Tests.{lt-ltb}
-use lib.Dec.{ltb}
+use lib.ListN.{replicate}
 use Rattle.ctaphid.specs.Choice.{pick}
 use Rattle.ctaphid.specs.Packets.{channelIn, declaredIn, read}
-use Rattle.ctaphid.specs.Commands.{among}
-use Rattle.ctaphid.specs.Receiver.{collect, start, whenIdle, whenOver, onOwn, whenBusy, receive, isOn}
-use Rattle.ctaphid.specs.Transport.{Event, nothing, isAllocated, isValid, isLockedAgainst, isShut, nextChannel, onInit, dispatch, settle, hear}
+use Rattle.ctaphid.specs.Commands.{PING, among}
+use Rattle.ctaphid.specs.Receiver.{collect, start, whenIdle, onOwn, whenBusy, receive, isOn}
+use Rattle.ctaphid.specs.Transport.{Event, nothing, reply, isAllocated, isValid, isLockedAgainst, isShut, nextChannel, onInit, dispatch, settle, hear}
 use Rattle.ctaphid.specs.Demands.{standard, Taken, latest, after, answer, Begun, Since, TransactionsEndWithin}
 use Rattle.ctaphid.proofs.InstancesBounds.{at, allBytes, proper, channel, settings, two, two-taken}
 
@@ -41,6 +41,11 @@ longest-on = refl
 pub longest-off : standard .isOn (after standard settings (longest 127)) 1 12678 ≡ false
 unfolding read channelIn declaredIn hear isShut settle dispatch among onInit nextChannel isAllocated isValid isLockedAgainst isOn receive whenIdle whenBusy onOwn start collect pick
 longest-off = refl
+
+-- by its last one, 99 ms later, it is whole
+pub longest-whole : answer standard settings (longest 127) (at (5 + 99 * 128) (channel 1 ++ (127 ∷ []))) ≡ reply 1 PING (replicate 7609 0)
+unfolding read channelIn declaredIn hear isShut settle dispatch among onInit nextChannel isAllocated isValid isLockedAgainst receive whenIdle whenBusy onOwn start collect pick
+longest-whole = refl
 
 -- its first packet is answered by nothing
 begins-silent : answer standard settings two (at 5 (channel 1 ++ (0x81 ∷ 0x1d ∷ 0xb9 ∷ []))) ≡ nothing

@@ -1,20 +1,20 @@
 -- Who is told that the device is busy is told so because of another channel's transaction or lock; so no one is shut out for long. Assumes nothing.
-use Prim.Native.Nat.{ℕ, _+_, _*_, _≤_, _<_}
+use Prim.Native.Nat.{ℕ}
 use native.Mathlib.Omega.{arith}
 use mathlib.Core.Path.{_≡_, refl, ap, sym, subst, _∙_}
-use mathlib.Core.List.{List, [], _∷_, _++_}
-use mathlib.Core.Bool.{Bool, true, false, not, true≢false}
+use mathlib.Core.List.{List, [], _++_}
+use mathlib.Core.Bool.{Bool, true, false, not}
 use mathlib.Core.Logic.{_⊎_, inl, inr, ⊎-elim}
 use borrow.Author.Tests.{lt-ltb, leb-false, eqb-false, eq-eqb, not-true}
-use lib.Dec.{ltb, leb, eqb}
-use lib.ListN.{length, take, getD}
+use lib.Dec.{leb, eqb}
+use lib.ListN.{take, getD}
 use Rattle.ctaphid.specs.Choice.{pick}
 use Rattle.ctaphid.specs.Packets.{Packet, initialization, continuation, read}
 use Rattle.ctaphid.specs.Commands.{Command, MSG, CBOR, INIT, PING, CANCEL, ERROR, KEEPALIVE, WINK, LOCK, commandOf}
-use Rattle.ctaphid.specs.Errors.{Error, InvalidCmd, InvalidPar, InvalidLen, InvalidSeq, MsgTimeout, ChannelBusy, InvalidChannel, code}
+use Rattle.ctaphid.specs.Errors.{Error, InvalidCmd, InvalidPar, InvalidLen, InvalidSeq, MsgTimeout, InvalidChannel, code}
 use Rattle.ctaphid.specs.Receiver.{Transaction, Receiver, idle, busy, Turn, channelOf, collect, start, whenIdle, whenOver, onOwn, whenBusy, receive, isOn}
-use Rattle.ctaphid.specs.Transport.{Lock, Transport, Event, Answer, nothing, reply, request, Next, error, isValid, notValid, isLocked, isLockedBy, isLockedAgainst, isShut, onInit, onLock, dispatch, settle, settled, hear, withReceiver}
-use Rattle.ctaphid.specs.Demands.{AnyDevice, standard, Taken, after, on, TransactionsEnd, LocksEnd, busyOn, Against, Honest, HeldBy, NoneShutOut}
+use Rattle.ctaphid.specs.Transport.{Lock, Transport, Answer, nothing, reply, request, Next, error, notValid, isLocked, isLockedBy, isLockedAgainst, isShut, onInit, onLock, dispatch, settle, settled, hear, withReceiver}
+use Rattle.ctaphid.specs.Demands.{AnyDevice, standard, after, on, TransactionsEnd, LocksEnd, busyOn, Against, Honest, NoneShutOut}
 use Rattle.ctaphid.proofs.Tests.{pick-true, pick-both, pick-known}
 use Rattle.ctaphid.proofs.Histories.{on-read}
 use Rattle.ctaphid.proofs.Bounds.{commandIn, transactions-end, locks-end}

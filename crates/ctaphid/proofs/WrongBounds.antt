@@ -1,21 +1,20 @@
 -- A device whose lock never ends, and one whose transaction lives by other channels' packets, do not satisfy the demands. Assumes nothing.
-use Prim.Native.Nat.{ℕ, zero, suc, _+_, _*_, _≤_, _<_}
+use Prim.Native.Nat.{ℕ, zero, suc, _+_, _*_, _≤_}
 use native.Mathlib.Omega.{arith}
 use mathlib.Core.Path.{_≡_, refl, ap, sym, _∙_}
 use mathlib.Core.List.{List, [], _∷_}
-use mathlib.Core.Bool.{Bool, true, false}
-use mathlib.Core.Logic.{_⊎_, inl, inr, ⊎-elim}
+use mathlib.Core.Bool.{true}
+use mathlib.Core.Logic.{inl, inr, ⊎-elim}
 use borrow.Author.Tests.{le-ltb, lt-leb}
-use lib.Dec.{leb}
 use lib.ListN.{replicate}
 use Rattle.ctaphid.specs.Choice.{pick}
 use Rattle.ctaphid.specs.Packets.{channelIn, declaredIn, read}
-use Rattle.ctaphid.specs.Commands.{ERROR, among}
-use Rattle.ctaphid.specs.Receiver.{busy, collect, start, whenIdle, whenOver, onOwn, whenBusy, receive, isOn}
-use Rattle.ctaphid.specs.Transport.{Settings, Transport, free, Event, Answer, nothing, reply, Next, next, isAllocated, isValid, isLockedBy, isLockedAgainst, isShut, nextChannel, onInit, lockFor, onLock, dispatch, settle, hear}
-use Rattle.ctaphid.specs.Demands.{AnyDevice, Taken, latest, after, answer, Begun, Since, TransactionsEndWithin, TransactionsEnd, Locked, Holding, LocksEnd, busyOn, HeldBy, NoneShutOut}
-use Rattle.ctaphid.specs.WrongBounds.{stretched, stretch, foreverLocked, revived, revive, anyPacketIsLife}
-use Rattle.ctaphid.proofs.InstancesBounds.{at, allBytes, proper, ping, begin, lock, settings, two, two-taken, begun, begun-taken, locked, locked-taken}
+use Rattle.ctaphid.specs.Commands.{among}
+use Rattle.ctaphid.specs.Receiver.{busy, collect, start, whenIdle, whenBusy, receive, isOn}
+use Rattle.ctaphid.specs.Transport.{Settings, Transport, free, Event, nothing, Next, next, isAllocated, isValid, isLockedBy, isLockedAgainst, isShut, nextChannel, onInit, lockFor, onLock, dispatch, settle, hear}
+use Rattle.ctaphid.specs.Demands.{AnyDevice, Taken, latest, after, answer, Begun, Since, TransactionsEnd, Locked, Holding, LocksEnd, busyOn, HeldBy, NoneShutOut}
+use Rattle.ctaphid.specs.WrongBounds.{foreverLocked, anyPacketIsLife}
+use Rattle.ctaphid.proofs.InstancesBounds.{at, allBytes, proper, ping, begin, lock, settings, two, begun, begun-taken, locked, locked-taken}
 
 -- what a history tells of came no later than its latest event
 begun-start : (D : AnyDevice) (set : Settings) (c : ℕ) (past : List Event) (t : ℕ) → Taken past → Begun D set c past t → t ≤ latest past

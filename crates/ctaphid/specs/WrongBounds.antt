@@ -2,7 +2,7 @@
 use Prim.Native.Nat.{ℕ, _+_}
 use lib.Dec.{leb, eqb}
 use Rattle.ctaphid.specs.Choice.{pick}
-use Rattle.ctaphid.specs.Receiver.{Transaction, Receiver, idle, busy, isOn}
+use Rattle.ctaphid.specs.Receiver.{Receiver, idle, busy, isOn}
 use Rattle.ctaphid.specs.Transport.{Lock, Transport, Next, next, fresh, isLockedBy, withLock, withReceiver, step}
 use Rattle.ctaphid.specs.Demands.{AnyDevice}
 
