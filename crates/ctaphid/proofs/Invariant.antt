@@ -187,7 +187,7 @@ module _ (max time : ℕ) where
 -- ---- what a whole message alters: by INIT the count of channels, by LOCK the lock
 
 -- what reads as LOCK is LOCK's number
-among-lock : (cs : List Command) (n : ℕ) → among cs n ≡ LOCK → n ≡ 4
+pub among-lock : (cs : List Command) (n : ℕ) → among cs n ≡ LOCK → n ≡ 4
 unfolding among
 among-lock [] n = λ e. let z : _≡_ {A = ℕ} 63 4 = ap number e in absurd (omega arith)
 among-lock (c ∷ rest) n =
@@ -209,7 +209,7 @@ module _ (P : Transport → Type 0) (d : Transport) (time c : ℕ) (payload : Li
       (pick-known (λ (x : Next Transport). P (x .state)) (ltb 10 (getD payload 0 0)) _ _ (λ e. same) (λ e. new (ltb-false 10 (getD payload 0 0) e)))
       same
 
-  keeps-dispatch : (x : Command) → (c ≡ broadcast → P (withAllocated d (nextChannel (d .allocated)))) → (x ≡ LOCK → getD payload 0 0 ≤ 10 → P (withLock d (lockFor time c (getD payload 0 0)))) → P (dispatch d time c x payload .state)
+  pub keeps-dispatch : (x : Command) → (c ≡ broadcast → P (withAllocated d (nextChannel (d .allocated)))) → (x ≡ LOCK → getD payload 0 0 ≤ 10 → P (withLock d (lockFor time c (getD payload 0 0)))) → P (dispatch d time c x payload .state)
   unfolding dispatch
   keeps-dispatch MSG init lock = same
   keeps-dispatch CBOR init lock = same

@@ -10,3 +10,10 @@ pub mod Deliver
 pub mod Carried
 pub mod Instances
 pub mod WrongDelivery
+pub mod Histories
+pub mod Bounds
+pub mod Shut
+pub mod CarriedBounds
+pub mod InstancesBounds
+pub mod Sharp
+pub mod WrongBounds

@@ -222,3 +222,10 @@ NoneShutOut D =
 abbrev pub Agrees : AnyDevice → Type 0
 Agrees D =
     (set : Settings) → set .maximum ≤ 7609 → (past : List Event) (e : Event) → Taken (e ∷ past) → answer D set past e ≡ answer standard set past e
+
+-- and answers its two questions as the standard's transport does, at any time that isn't past
+abbrev pub AnswersAlike : AnyDevice → Type 0
+AnswersAlike D =
+    (set : Settings) → set .maximum ≤ 7609 → (past : List Event) → Taken past → (c time : ℕ) → latest past ≤ time
+    → (D .isOn (after D set past) c time ≡ standard .isOn (after standard set past) c time)
+    × (D .isLockedBy (after D set past) c time ≡ standard .isLockedBy (after standard set past) c time)

@@ -10,3 +10,4 @@ pub mod Transport
 pub mod Device
 pub mod Demands
 pub mod Wrong
+pub mod WrongBounds
