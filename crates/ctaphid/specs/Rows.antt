@@ -229,7 +229,7 @@ pub record FurtherRows : Type 0 where
   -- the lock is asked before the transaction: another channel's packet past the deadline leaves it
   pub lock-first : answers (having 2) (at 0 (lockOf 1) ∷ at 1 begin60 ∷ at 101 (pingOn 2) ∷ at 102 (goOn 0) ∷ []) ≡ locks ∷ none ∷ told 2 6 ∷ told 1 5 ∷ []
   -- LOCK 0 releases, and a second LOCK counts anew
-  pub released : answers (having 2) (at 0 (lockOf 1) ∷ at 1 (lockOf 0) ∷ at 2 (pingOn 2) ∷ []) ≡ locks ∷ locks ∷ echo 2 ∷ []
+  pub released : answers (having 2) (at 0 (lockOf 1) ∷ at 0 (lockOf 0) ∷ at 0 (pingOn 2) ∷ []) ≡ locks ∷ locks ∷ echo 2 ∷ []
   pub locked-anew : answers (having 2) (at 0 (lockOf 9) ∷ at 500 (lockOf 1) ∷ at 1499 (pingOn 2) ∷ at 1500 (pingOn 2) ∷ []) ≡ locks ∷ locks ∷ told 2 6 ∷ echo 2 ∷ []
   -- a lock stays through errors of its channel's LOCK: of 0 bytes, of 11 seconds and of 2 bytes
   pub lock-errors : answers (having 2)
@@ -307,10 +307,10 @@ pub record FurtherRows : Type 0 where
   pub wink-1 : answers (having 2) (at 0 (on 1 ++ (0x88 ∷ 0 ∷ 1 ∷ [])) ∷ []) ≡ told 1 3 ∷ []
   pub wink-not-yet : isWinking (setUp full) 0 ≡ false
   -- what ends a wink: any message or reply, error replies included; and what does not: nothing
-  pub wink-ended : map (λ (front : List ℕ). isWinking (left (having 2) (at 0 winkOn1 ∷ at 1 front ∷ [])) 2)
+  pub wink-ended : map (λ (front : List ℕ). isWinking (left (having 2) (at 0 winkOn1 ∷ at 0 front ∷ [])) 0)
       (pingOn 1 ∷ pingOn 9 ∷ lockOf 11 ∷ initOn everywhere ∷ (on 1 ++ (0x88 ∷ 0 ∷ 1 ∷ [])) ∷ (on 1 ++ (0x83 ∷ [])) ∷ (on 1 ++ (0x90 ∷ [])) ∷ (on 1 ++ (0x82 ∷ [])) ∷ [])
       ≡ false ∷ false ∷ false ∷ false ∷ false ∷ false ∷ false ∷ false ∷ []
-  pub wink-ended-out : isWinking (left without (at 0 winkOn1 ∷ at 1 (on 1 ++ (0x83 ∷ [])) ∷ [])) 2 ≡ false
+  pub wink-ended-out : isWinking (left without (at 0 winkOn1 ∷ at 0 (on 1 ++ (0x83 ∷ [])) ∷ [])) 0 ≡ false
   pub wink-stays : map (λ (front : List ℕ). isWinking (left (having 2) (at 0 winkOn1 ∷ at 1 front ∷ [])) 2)
       (begin60 ∷ goOn 0 ∷ (on 1 ++ (0x91 ∷ [])) ∷ winkOn1 ∷ [])
       ≡ true ∷ true ∷ true ∷ true ∷ []
