@@ -17,3 +17,4 @@ pub mod CarriedBounds
 pub mod InstancesBounds
 pub mod Sharp
 pub mod WrongBounds
+pub mod Rows

@@ -11,3 +11,4 @@ pub mod Device
 pub mod Demands
 pub mod Wrong
 pub mod WrongBounds
+pub mod Rows

@@ -2,3 +2,4 @@ pub mod Answers
 pub mod Sending
 pub mod Driven
 pub mod Unique
+pub mod Rows
