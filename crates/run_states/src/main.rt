@@ -1,0 +1,404 @@
+// Steps from states that are not sound, each beside its sound neighbour; then the order of refusals, times, set-up and echo.
+// A line has the step's answer, the question's, and whether the state and both buffers are as they came: of the transport, then of
+// the device. The packet always writes to a buffer, so a step that is taken alters something.
+use hid::Answer;
+use hid::CtapHid;
+use hid::MainHid;
+use hid::MainReady;
+use hid::MessageAssembler;
+use hid::Ready;
+use hid::Running;
+use libc::STDOUT_FILENO;
+
+const LAST: u64 = 1000;
+
+const TWO_TO_48: u64 = 0x1_0000_0000_0000;
+
+fn main() {
+    limits();
+    deadlines();
+    holders();
+    messages();
+    channels();
+    times();
+    order();
+    main_order();
+    set_up(7609);
+    set_up(7610);
+    echo(7609);
+    echo(7610);
+}
+
+// Two channels, and no transaction or lock.
+fn base() -> CtapHid {
+    CtapHid {
+        assembler: MessageAssembler {
+            deadline: 0,
+            cid: 0,
+            len: 0,
+            taken: 0,
+            cmd: 0,
+            seq: 0,
+        },
+        lock: 0,
+        last: LAST,
+        allocated: 2,
+        locked: 0,
+        max: 200,
+        u2f: 1,
+    }
+}
+
+// A PING on channel 2 whose first packet came at the last time.
+fn transaction() -> MessageAssembler {
+    MessageAssembler {
+        deadline: LAST + 100,
+        cid: 2,
+        len: 200,
+        taken: 57,
+        cmd: 1,
+        seq: 0,
+    }
+}
+
+fn limits() {
+    let mut hid = base();
+    let mut message = [0u8; 7610];
+    hid.max = 7609;
+    trial_with(b"maximum 7,609", hid, 0, LAST, &mut message);
+    hid.max = 7610;
+    trial_with(b"maximum 7,610", hid, 0, LAST, &mut message);
+    hid = base();
+    hid.allocated = 0xFFFF_FFFE;
+    trial(b"count FFFFFFFE", hid);
+    hid.allocated = 0xFFFF_FFFF;
+    trial(b"count FFFFFFFF", hid);
+    hid = base();
+    hid.last = TWO_TO_48 - 1;
+    trial(b"last time 2^48 - 1", hid);
+    hid.last = TWO_TO_48;
+    trial(b"last time 2^48", hid);
+}
+
+fn deadlines() {
+    let mut assembler = transaction();
+    assembler.deadline = LAST + 100;
+    trial_of(b"transaction deadline 100 past", assembler);
+    assembler.deadline = LAST + 101;
+    trial_of(b"transaction deadline 101 past", assembler);
+    let mut hid = base();
+    hid.locked = 1;
+    hid.lock = LAST + 10000;
+    trial(b"lock deadline 10,000 past", hid);
+    hid.lock = LAST + 10001;
+    trial(b"lock deadline 10,001 past", hid);
+    let mut message = [0u8; 200];
+    trial_with(
+        b"wink deadline 5,000 past",
+        base(),
+        LAST + 5000,
+        LAST,
+        &mut message,
+    );
+    trial_with(
+        b"wink deadline 5,001 past",
+        base(),
+        LAST + 5001,
+        LAST,
+        &mut message,
+    );
+}
+
+fn holders() {
+    let mut hid = base();
+    hid.lock = LAST + 1;
+    hid.locked = 2;
+    trial(b"lock running, held by 2 of 2", hid);
+    hid.locked = 3;
+    trial(b"lock running, held by 3 of 2", hid);
+    hid.locked = 1;
+    trial(b"lock running, held by 1", hid);
+    hid.locked = 0;
+    trial(b"lock running, held by 0", hid);
+    hid.lock = LAST;
+    trial(b"lock over, held by 0", hid);
+    hid.locked = 3;
+    trial(b"lock over, held by 3 of 2", hid);
+}
+
+fn messages() {
+    let mut assembler = transaction();
+    assembler.cmd = 127;
+    trial_of(b"command 127", assembler);
+    assembler.cmd = 128;
+    trial_of(b"command 128", assembler);
+    assembler = transaction();
+    assembler.len = 58;
+    trial_of(b"declared length 58", assembler);
+    assembler.len = 57;
+    trial_of(b"declared length 57", assembler);
+    assembler.len = 200;
+    trial_of(b"declared length 200 of 200", assembler);
+    assembler.len = 201;
+    trial_of(b"declared length 201 of 200", assembler);
+    assembler.seq = 1;
+    assembler.taken = 116;
+    assembler.len = 117;
+    trial_of(b"number 1, 116 taken of 117", assembler);
+    assembler.len = 116;
+    trial_of(b"number 1, 116 taken of 116", assembler);
+    assembler.len = 200;
+    trial_of(b"number 1, 116 taken", assembler);
+    assembler.taken = 115;
+    trial_of(b"number 1, 115 taken", assembler);
+    assembler.taken = 117;
+    trial_of(b"number 1, 117 taken", assembler);
+}
+
+fn channels() {
+    let mut assembler = transaction();
+    assembler.cid = 2;
+    trial_of(b"transaction on 2 of 2", assembler);
+    assembler.cid = 3;
+    trial_of(b"transaction on 3 of 2", assembler);
+    assembler.cid = 1;
+    trial_of(b"transaction on 1", assembler);
+    assembler.cid = 0;
+    trial_of(b"transaction on 0", assembler);
+    assembler.cid = 0xFFFF_FFFF;
+    assembler.cmd = 6;
+    trial_of(b"INIT on FFFFFFFF", assembler);
+    assembler.cmd = 1;
+    trial_of(b"PING on FFFFFFFF", assembler);
+    assembler.cmd = 127;
+    trial_of(b"command 127 on FFFFFFFF", assembler);
+    assembler.cid = 3;
+    assembler.cmd = 6;
+    trial_of(b"INIT on 3 of 2", assembler);
+}
+
+fn times() {
+    trial_at(b"time as the last", base(), LAST);
+    trial_at(b"time one before the last", base(), LAST - 1);
+    trial_at(b"time 2^48 - 1", base(), TWO_TO_48 - 1);
+    trial_at(b"time 2^48", base(), TWO_TO_48);
+}
+
+// One fault after the other is repaired: the packet, the message buffer, the reply buffer, the state, the time.
+fn order() {
+    let mut unsound = base();
+    unsound.lock = LAST + 10001;
+    let early = LAST - 1;
+    let mut message = [0u8; 200];
+    let mut reply = [0u8; 17];
+    let mut few = [0u8; 199];
+    let mut short = [0u8; 16];
+    let cut = [0u8; 63];
+    let whole = [0u8; 64];
+    text(b"all four faults:");
+    step(unsound, early, &cut, &mut few, &mut short);
+    step(unsound, early, &whole, &mut few, &mut short);
+    step(unsound, early, &whole, &mut message, &mut short);
+    step(unsound, early, &whole, &mut message, &mut reply);
+    step(base(), early, &whole, &mut message, &mut reply);
+    step(base(), LAST, &whole, &mut message, &mut reply);
+    text(b"\n");
+}
+
+fn step(hid: CtapHid, time: u64, packet: &[u8], message: &mut [u8], reply: &mut [u8]) {
+    let stepped = hid.step(time, false, packet, message, reply);
+    let answer = stepped.answer;
+    show(answer);
+}
+
+fn main_order() {
+    let unsound = MainHid {
+        hid: base(),
+        wink: LAST + 5001,
+    };
+    let sound = MainHid {
+        hid: base(),
+        wink: LAST,
+    };
+    let early = LAST - 1;
+    let mut message = [0u8; 200];
+    let mut reply = [0u8; 17];
+    let mut few = [0u8; 199];
+    let mut short = [0u8; 16];
+    let cut = [0u8; 63];
+    let whole = [0u8; 64];
+    text(b"all four faults, the device:");
+    main_step(unsound, early, &cut, &mut few, &mut short);
+    main_step(unsound, early, &whole, &mut few, &mut short);
+    main_step(unsound, early, &whole, &mut message, &mut short);
+    main_step(unsound, early, &whole, &mut message, &mut reply);
+    main_step(sound, early, &whole, &mut message, &mut reply);
+    main_step(sound, LAST, &whole, &mut message, &mut reply);
+    text(b"\n");
+}
+
+fn main_step(main: MainHid, time: u64, packet: &[u8], message: &mut [u8], reply: &mut [u8]) {
+    let stepped = main.step(time, false, packet, message, reply);
+    let answer = stepped.answer;
+    show(answer);
+}
+
+fn set_up(max: usize) {
+    text(b"set-up with ");
+    io::print_decimal(STDOUT_FILENO, max as u64);
+    text(b":");
+    match CtapHid::new(max, true) {
+        Ready::Hid(_) => text(b" fresh"),
+        Ready::Refused(number) => refused(number),
+    }
+    match MainHid::new(max, true) {
+        MainReady::Hid(_) => text(b" fresh"),
+        MainReady::Refused(number) => refused(number),
+    }
+    text(b"\n");
+}
+
+fn echo(len: usize) {
+    text(b"echo of ");
+    io::print_decimal(STDOUT_FILENO, len as u64);
+    text(b":");
+    show(hid::echo(1, len));
+    text(b"\n");
+}
+
+fn trial_of(name: &[u8], assembler: MessageAssembler) {
+    let mut hid = base();
+    hid.assembler = assembler;
+    trial(name, hid);
+}
+
+fn trial(name: &[u8], hid: CtapHid) {
+    trial_at(name, hid, hid.last);
+}
+
+fn trial_at(name: &[u8], hid: CtapHid, time: u64) {
+    let mut message = [0u8; 200];
+    trial_with(name, hid, 0, time, &mut message);
+}
+
+// The packet is a PING of two bytes on channel 1.
+fn trial_with(name: &[u8], hid: CtapHid, wink: u64, time: u64, message: &mut [u8]) {
+    let mut packet = [0u8; 64];
+    packet[3] = 1;
+    packet[4] = 0x81;
+    packet[6] = 2;
+    packet[7] = 0xAB;
+    packet[8] = 0xCD;
+    text(name);
+    text(b":");
+    transport(hid, time, &packet, message);
+    text(b";");
+    device(MainHid { hid, wink }, time, &packet, message);
+    text(b"\n");
+}
+
+fn transport(hid: CtapHid, time: u64, packet: &[u8], message: &mut [u8]) {
+    let mut reply = [0u8; 17];
+    fill(message);
+    fill(&mut reply);
+    let stepped = hid.step(time, false, packet, message, &mut reply);
+    let answer = stepped.answer;
+    show(answer);
+    say(hid.is_locked_at(time));
+    let state = same(hid, stepped.hid);
+    as_it_came(state && is_filled(message) && is_filled(&reply));
+}
+
+fn device(main: MainHid, time: u64, packet: &[u8], message: &mut [u8]) {
+    let mut reply = [0u8; 17];
+    fill(message);
+    fill(&mut reply);
+    let stepped = main.step(time, false, packet, message, &mut reply);
+    let answer = stepped.answer;
+    show(answer);
+    say(main.is_winking_at(time));
+    let after = stepped.hid;
+    let state = same(main.hid, after.hid) && main.wink == after.wink;
+    as_it_came(state && is_filled(message) && is_filled(&reply));
+}
+
+fn fill(buffer: &mut [u8]) {
+    for i in 0..buffer.len() {
+        buffer[i] = (i % 251) as u8;
+    }
+}
+
+fn is_filled(buffer: &[u8]) -> bool {
+    for i in 0..buffer.len() {
+        if buffer[i] != (i % 251) as u8 {
+            return false;
+        }
+    }
+    true
+}
+
+fn same(a: CtapHid, b: CtapHid) -> bool {
+    same_assembler(a.assembler, b.assembler)
+        && a.lock == b.lock
+        && a.last == b.last
+        && a.allocated == b.allocated
+        && a.locked == b.locked
+        && a.max == b.max
+        && a.u2f == b.u2f
+}
+
+fn same_assembler(a: MessageAssembler, b: MessageAssembler) -> bool {
+    a.deadline == b.deadline
+        && a.cid == b.cid
+        && a.len == b.len
+        && a.taken == b.taken
+        && a.cmd == b.cmd
+        && a.seq == b.seq
+}
+
+fn show(answer: Answer) {
+    match answer {
+        Answer::Refused(number) => refused(number),
+        Answer::Nothing => text(b" taken"),
+        Answer::Message {
+            cid: _,
+            cmd: _,
+            len: _,
+        } => text(b" taken"),
+        Answer::Echo {
+            cid: _,
+            cmd: _,
+            len: _,
+        } => text(b" taken"),
+        Answer::Reply {
+            cid: _,
+            cmd: _,
+            len: _,
+        } => text(b" taken"),
+    }
+}
+
+fn say(running: Running) {
+    match running {
+        Running::Yes => text(b" yes"),
+        Running::No => text(b" no"),
+        Running::Refused(number) => refused(number),
+    }
+}
+
+fn refused(number: u8) {
+    text(b" refused ");
+    io::print_decimal(STDOUT_FILENO, number as u64);
+}
+
+fn as_it_came(unaltered: bool) {
+    if unaltered {
+        text(b" all as it came");
+    } else {
+        text(b" ALTERED");
+    }
+}
+
+fn text(t: &[u8]) {
+    io::write_all(STDOUT_FILENO, t);
+}
