@@ -216,6 +216,13 @@ NoneShutOut D =
     (set : Settings) → set .maximum ≤ 7609 → (past : List Event) (e : Event) → Taken (e ∷ past) → e .disabled ≡ false
     → answer D set past e ≡ busyOn (on e) → HeldBy D set past (on e) (e .time)
 
+-- ---- demand 3, all of it
+pub record GivesShare (D : AnyDevice) : Type 0 where
+  pub delivery : Delivery D
+  pub transactions : TransactionsEnd D
+  pub locks : LocksEnd D
+  pub shutOut : NoneShutOut D
+
 -- ---- how the demands are carried to another device
 
 -- it answers as the standard's transport does, whenever no call is refused

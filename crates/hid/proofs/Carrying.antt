@@ -5,8 +5,11 @@ use mathlib.Core.Path.{_≡_, refl, sym, ap, subst, _∙_}
 use mathlib.Core.List.{List, [], _∷_}
 use mathlib.Core.Bool.{Bool}
 use lib.ListN.{length}
-use Rattle.ctaphid.specs.Transport.{Settings, Transport, Event, Answer, step}
-use Rattle.ctaphid.specs.Demands.{standard, Taken, latest, after, answer, Agrees}
+use Rattle.ctaphid.specs.Transport.{Settings, Transport, Event, Answer, isLockedBy, step}
+use Rattle.ctaphid.specs.Receiver.{isOn}
+use Rattle.ctaphid.specs.Demands.{standard, Taken, latest, after, answer, GivesShare, Agrees, AnswersAlike}
+use Rattle.ctaphid.proofs.Carried.{delivery-carried}
+use Rattle.ctaphid.proofs.CarriedBounds.{none-shut-out-carried, transactions-end-carried, locks-end-carried}
 use Rattle.hid.specs.Meaning.{Said, transportOf}
 use Rattle.hid.specs.Soundness.{Sound}
 use Rattle.hid.specs.Refining.{Comes, onEvent}
@@ -53,3 +56,20 @@ code-agrees m r long roomy set most past e taken =
     let f : Follows set past h = follows m r long roomy set most past (taken .2) in
     let c : Comes (h .hid .last) e = comes m r long roomy set most past e taken (h .hid .last) (f .last) in
     ap answerIn (step-refines (h .hid) (h .message) (h .short) e (f .sound) (f .room) (f .short) c .answer) ∙ ap (λ (d : Transport). step d e .answer) (f .means)
+
+pub code-answers-alike : (m r : List ℕ) → 7609 ≤ length m → 17 ≤ length r → AnswersAlike (code m r)
+code-answers-alike m r long roomy set most past taken c time later =
+    let f = follows m r long roomy set most past taken in
+    (ap (λ (d : Transport). isOn (d .receiver) c time) (f .means), ap (λ (d : Transport). isLockedBy (d .lock) c time) (f .means))
+
+-- demand 3, of the code
+pub code-gives-share : (m r : List ℕ) → 7609 ≤ length m → 17 ≤ length r → GivesShare (code m r)
+code-gives-share m r long roomy =
+    let agrees = code-agrees m r long roomy in
+    let alike = code-answers-alike m r long roomy in
+    record {
+      delivery = delivery-carried (code m r) agrees;
+      transactions = transactions-end-carried (code m r) agrees alike;
+      locks = locks-end-carried (code m r) agrees alike;
+      shutOut = none-shut-out-carried (code m r) agrees;
+    }
