@@ -20,7 +20,8 @@ use Rattle.ctaphid.specs.Demands.{standard, latest, after, on, Sent, Hus
 use Rattle.ctaphid.proofs.Splitting.{padded-full}
 use Rattle.ctaphid.proofs.Packets.{read-written}
 use Rattle.ctaphid.proofs.Invariant.{Holds}
-use Rattle.ctaphid.proofs.Steps.{on-read, settings-after, holds-after, grown, receive-more, receive-last, receive-free, allocated-most, allocated-valid, unlocked-for, still-unlocked, let-through, served, dispatched, Same, other-same}
+use Rattle.ctaphid.proofs.Steps.{grown, receive-more, receive-last, receive-free, allocated-most, allocated-valid, unlocked-for, still-unlocked, let-through, served, dispatched, Same, other-same}
+use Rattle.ctaphid.proofs.Histories.{on-read, settings-after, holds-after}
 
 -- ---- data fields
 
@@ -186,7 +187,7 @@ module _ (d : Transport) (t : Transaction) (m : Message) (payload left : List �
   -- a packet of another channel
   others : (on e ≡ t .channel → ⊥) → (f : Event) (rest : List Event) → Goal d t m payload (f ∷ rest) → Goal d t m payload (e ∷ (f ∷ rest))
   others h f rest q =
-      let s : Same d (step d e) = other-same d (e .time) (e .disabled) (read (e .packet)) t (k .busied) live (λ o. h (on-read e ∙ o)) in (
+      let s : Same d (step d e) = other-same d (e .time) (e .disabled) (read (e .packet)) t (k .busied) live (λ o. h (sym (on-read e) ∙ o)) in (
         record { own = λ o. absurd (h o); other = λ o. s .hushed },
         subst (λ (x : Transport). Goal x t m payload (f ∷ rest)) (sym (s .state)) q,
       )

@@ -17,34 +17,7 @@ use Rattle.ctaphid.specs.Receiver.{Transaction, Receiver, idle, busy, si
 use Rattle.ctaphid.specs.Transport.{Settings, Lock, Transport, Event, Next, next, error, broadcast, isAllocated, isValid, notValid, isLocked, isLockedBy, isLockedAgainst, isShut, withReceiver, dispatch, settle, settled, serve, hear}
 use Rattle.ctaphid.specs.Demands.{standard, latest, Taken, after, on, Message, aPing, aMsg, aWink, aCbor, numberOf, handedOut, HandsOut}
 use Rattle.ctaphid.proofs.Tests.{pick-true, pick-both, pick-known}
-use Rattle.ctaphid.proofs.Packets.{read-first, read-later, read-formed}
 use Rattle.ctaphid.proofs.Transport.{hear-served}
-use Rattle.ctaphid.proofs.Invariant.{Holds, holds-fresh, holds-later, holds-hear, same-settings}
-
--- ---- after a history
-
-named : (e : Event) → on e ≡ channelIn (e .packet)
-unfolding channelIn
-named e = refl
-
--- the channel that the bytes name is the packet's
-pub on-read : (e : Event) → on e ≡ channelOf (read (e .packet))
-on-read e = by-kind (decLe 0x80 (byte (e .packet) 4))
-  where
-    by-kind : Dec (0x80 ≤ byte (e .packet) 4) → on e ≡ channelOf (read (e .packet))
-    by-kind (yes h) = rw (read-first (e .packet) h) (named e)
-    by-kind (no h) = rw (read-later (e .packet) (omega arith)) (named e)
-
-pub settings-after : (set : Settings) (past : List Event) → after standard set past .settings ≡ set
-settings-after set [] = refl
-settings-after set (e ∷ past) = same-settings (after standard set past) (e .time) (e .disabled) (read (e .packet)) ∙ settings-after set past
-
-pub holds-after : (set : Settings) (past : List Event) → Taken past → Holds (after standard set past) (latest past)
-holds-after set [] taken = holds-fresh set 0
-holds-after set (e ∷ past) taken =
-    holds-hear (after standard set past) (e .time) (e .disabled) (read (e .packet))
-    (holds-later (after standard set past) (latest past) (e .time) (taken .1) (holds-after set past (taken .2)))
-    (read-formed (e .packet) (taken .0 .size) (taken .0 .bytes))
 
 -- ---- the receiver
 
