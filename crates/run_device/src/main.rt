@@ -1,0 +1,113 @@
+// Runs of the device that the scope asks for beside its rows: a broadcast INIT that declares 60 bytes, and a wink at its end.
+// A line has the time, the packet's front and the answer: its payload where it has one.
+use hid::Answer;
+use hid::MainHid;
+use hid::MainReady;
+use hid::Running;
+use libc::STDOUT_FILENO;
+
+fn main() {
+    match MainHid::new(7609, true) {
+        MainReady::Hid(hid) => {
+            text(
+                b"a broadcast INIT declared 60 blocks all others for 100 ms, and its continuation gets nothing\n",
+            );
+            blocked(hid);
+            text(b"a wink runs for 5,000 ms\n");
+            winked(hid);
+        }
+        MainReady::Refused(_) => text(b"refused\n"),
+    }
+}
+
+// Channel 1 is allocated at 0, and the INIT that is too long comes at 10.
+fn blocked(fresh: MainHid) {
+    let mut hid = fresh;
+    hid = step(hid, 0, b"\xff\xff\xff\xff\x86\x00\x08");
+    hid = step(hid, 10, b"\xff\xff\xff\xff\x86\x00\x3c");
+    hid = step(hid, 11, b"\x00\x00\x00\x01\x81\x00\x01\xaa");
+    hid = step(hid, 12, b"\xff\xff\xff\xff\x00");
+    hid = step(hid, 109, b"\x00\x00\x00\x01\x81\x00\x01\xaa");
+    hid = step(hid, 110, b"\x00\x00\x00\x01\x81\x00\x01\xaa");
+    hid = step(hid, 110, b"\xff\xff\xff\xff\x86\x00\x08");
+    asked(hid, 110);
+}
+
+fn winked(fresh: MainHid) {
+    let mut hid = fresh;
+    hid = step(hid, 0, b"\xff\xff\xff\xff\x86\x00\x08");
+    asked(hid, 0);
+    hid = step(hid, 0, b"\x00\x00\x00\x01\x88\x00\x00");
+    asked(hid, 0);
+    asked(hid, 4999);
+    asked(hid, 5000);
+}
+
+// A packet that begins so and whose other bytes are 0.
+fn step(hid: MainHid, time: u64, front: &[u8]) -> MainHid {
+    let mut packet = [0u8; 64];
+    let mut message = [0u8; 7609];
+    let mut reply = [0u8; 17];
+    if front.len() > 64 {
+        return hid;
+    }
+    bytes::copy(front, &mut packet);
+    let stepped = hid.step(time, false, &packet, &mut message, &mut reply);
+    let answer = stepped.answer;
+    io::print_decimal(STDOUT_FILENO, time);
+    text(b" ");
+    hex(front);
+    text(b": ");
+    show(answer);
+    hex(hid::payload(answer, &message, &reply));
+    text(b"\n");
+    stepped.hid
+}
+
+fn show(answer: Answer) {
+    match answer {
+        Answer::Refused(number) => {
+            text(b"refused ");
+            io::print_decimal(STDOUT_FILENO, number as u64);
+        }
+        Answer::Nothing => text(b"nothing"),
+        Answer::Message { cid, cmd, len } => kind(b"message", cid, cmd.number(), len),
+        Answer::Echo { cid, cmd, len } => kind(b"echo", cid, cmd.number(), len),
+        Answer::Reply { cid, cmd, len } => kind(b"reply", cid, cmd.number(), len),
+    }
+}
+
+fn kind(name: &[u8], cid: u32, cmd: u8, len: usize) {
+    text(name);
+    text(b" on ");
+    io::print_hex(STDOUT_FILENO, cid as u64, 8);
+    text(b", command ");
+    io::print_hex(STDOUT_FILENO, cmd as u64, 2);
+    text(b", ");
+    io::print_decimal(STDOUT_FILENO, len as u64);
+    text(b" bytes ");
+}
+
+fn asked(hid: MainHid, time: u64) {
+    io::print_decimal(STDOUT_FILENO, time);
+    text(b" a wink runs: ");
+    match hid.is_winking_at(time) {
+        Running::Yes => text(b"yes\n"),
+        Running::No => text(b"no\n"),
+        Running::Refused(number) => {
+            text(b"refused ");
+            io::print_decimal(STDOUT_FILENO, number as u64);
+            text(b"\n");
+        }
+    }
+}
+
+fn hex(data: &[u8]) {
+    for i in 0..data.len() {
+        io::print_hex(STDOUT_FILENO, data[i] as u64, 2);
+    }
+}
+
+fn text(t: &[u8]) {
+    io::write_all(STDOUT_FILENO, t);
+}
