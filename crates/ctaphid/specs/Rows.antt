@@ -11,7 +11,7 @@ use Rattle.ctaphid.specs.Errors.{InvalidCmd, InvalidPar, InvalidLen, Inv
 use Rattle.ctaphid.specs.Capabilities.{wink, cbor, nmsg, bit, capabilities}
 use Rattle.ctaphid.specs.Limits.{packetSize, largest, timeout, winkTime, lastTime}
 use Rattle.ctaphid.specs.Receiver.{Receiver, idle, isOn}
-use Rattle.ctaphid.specs.Transport.{Settings, Lock, free, Transport, fresh, Event, Answer, nothing, reply, request, isLocked, isLockedBy, isLockedAgainst, withAllocated, withLock, withReceiver, step, run}
+use Rattle.ctaphid.specs.Transport.{Settings, Lock, free, Transport, fresh, Event, Answer, nothing, reply, request, isValid, isLocked, isLockedBy, isLockedAgainst, withAllocated, withLock, withReceiver, step, run}
 use Rattle.ctaphid.specs.Device.{Device, device, setUp, deviceStep, deviceRun, isWinking}
 
 -- ---- what a row is made of
@@ -213,6 +213,11 @@ pub record FurtherRows : Type 0 where
   -- INIT of 7 and of 9 bytes: InvalidLen, and no channel
   pub init-7 : answers (having 2) (at 0 (everywhere ++ (0x86 ∷ 0 ∷ 7 ∷ nonce)) ∷ at 0 (pingOn 3) ∷ []) ≡ told 0xffff_ffff 3 ∷ told 3 11 ∷ []
   pub init-9 : answers (having 2) (at 0 (everywhere ++ (0x86 ∷ 0 ∷ 9 ∷ nonce)) ∷ at 0 (on 1 ++ (0x86 ∷ 0 ∷ 9 ∷ nonce)) ∷ []) ≡ told 0xffff_ffff 3 ∷ told 1 3 ∷ []
+  -- the broadcast channel is for INIT alone, whatever the count
+  pub broadcast-others : answers (having 2)
+      (at 0 (everywhere ++ (0x85 ∷ [])) ∷ at 0 (everywhere ++ (0x87 ∷ [])) ∷ at 0 (everywhere ++ (0x90 ∷ [])) ∷ at 0 everywhere ∷ [])
+      ≡ told 0xffff_ffff 11 ∷ told 0xffff_ffff 11 ∷ told 0xffff_ffff 11 ∷ none ∷ []
+  pub broadcast-continuation : isValid 0xffff_ffff (continuation 0xffff_ffff 0 []) ≡ false
   -- a channel that isn't valid is told so, or gets nothing, before anything else: disabled, locked, or with a transaction that goes on
   pub invalid-first : answers (having 2)
       (at 0 begin60 ∷ shutAt 1 (pingOn 3) ∷ shutAt 1 (on 3) ∷ at 2 (pingOn 3) ∷ at 2 (on 3) ∷ at 3 everywhere ∷ at 4 (goOn 0) ∷ [])
@@ -226,6 +231,7 @@ pub record FurtherRows : Type 0 where
   -- a lock: its channel is served, others are busy, a broadcast INIT and continuations too
   pub locked : answers (having 2) (at 500 (lockOf 1) ∷ at 501 (pingOn 1) ∷ at 502 (initOn everywhere) ∷ at 503 (on 2) ∷ at 1499 (pingOn 2) ∷ at 1500 (pingOn 2) ∷ [])
       ≡ locks ∷ echo 1 ∷ told 0xffff_ffff 6 ∷ told 2 6 ∷ told 2 6 ∷ echo 2 ∷ []
+  pub locked-other-way : answers (having 2) (at 0 (on 2 ++ (0x84 ∷ 0 ∷ 1 ∷ 1 ∷ [])) ∷ at 1 (pingOn 1) ∷ at 1 (pingOn 2) ∷ []) ≡ sends 2 4 [] ∷ told 1 6 ∷ echo 2 ∷ []
   -- the lock is asked before the transaction: another channel's packet past the deadline leaves it
   pub lock-first : answers (having 2) (at 0 (lockOf 1) ∷ at 1 begin60 ∷ at 101 (pingOn 2) ∷ at 102 (goOn 0) ∷ []) ≡ locks ∷ none ∷ told 2 6 ∷ told 1 5 ∷ []
   -- LOCK 0 releases, and a second LOCK counts anew
@@ -243,6 +249,8 @@ pub record FurtherRows : Type 0 where
       × (isLockedBy (step (transportOf full 2) (at 0 (lockOf 1)) .state .lock) 2 999 ≡ false)
       × (isLockedAgainst (step (transportOf full 2) (at 0 (lockOf 1)) .state .lock) 1 999 ≡ false)
       × (isLockedAgainst (step (transportOf full 2) (at 0 (lockOf 1)) .state .lock) 2 999 ≡ true)
+      × (isLockedBy (step (transportOf full 2) (at 0 (lockOf 1)) .state .lock) 0 999 ≡ false)
+      × (isLockedAgainst (step (transportOf full 2) (at 0 (lockOf 1)) .state .lock) 0 999 ≡ true)
   pub lock-1000 : (isLocked (step (transportOf full 2) (at 0 (lockOf 1)) .state .lock) 1000 ≡ false)
       × (isLockedBy (step (transportOf full 2) (at 0 (lockOf 1)) .state .lock) 1 1000 ≡ false)
       × (isLockedAgainst (step (transportOf full 2) (at 0 (lockOf 1)) .state .lock) 2 1000 ≡ false)
@@ -251,6 +259,7 @@ pub record FurtherRows : Type 0 where
   pub on-99 : (isOn (step (transportOf full 2) (at 0 begin60) .state .receiver) 1 99 ≡ true)
       × (isOn (step (transportOf full 2) (at 0 begin60) .state .receiver) 1 100 ≡ false)
       × (isOn (step (transportOf full 2) (at 0 begin60) .state .receiver) 2 99 ≡ false)
+      × (isOn (step (transportOf full 2) (at 0 begin60) .state .receiver) 0 99 ≡ false)
       × (isOn (fresh full .receiver) 0 0 ≡ false)
   -- the largest message that is taken is the maximum: 7,609, or a smaller one
   pub length-7609 : answers (having 2) (at 0 (on 1 ++ (0x81 ∷ 0x1d ∷ 0xb9 ∷ [])) ∷ at 1 (pingOn 2) ∷ []) ≡ none ∷ told 2 6 ∷ []
@@ -275,6 +284,10 @@ pub record FurtherRows : Type 0 where
   pub timeout-once : answers (having 2) (at 0 begin60 ∷ at 100 (goOn 0) ∷ at 100 (goOn 0) ∷ []) ≡ none ∷ told 1 5 ∷ none ∷ []
   pub timeout-other : answers (having 2) (at 0 begin60 ∷ at 100 (on 2) ∷ at 100 (goOn 0) ∷ []) ≡ none ∷ none ∷ none ∷ []
   pub timeout-served : answers (having 2) (at 0 begin60 ∷ at 100 (pingOn 2) ∷ at 100 (goOn 0) ∷ []) ≡ none ∷ echo 2 ∷ none ∷ []
+  -- the same of a transaction on channel 2, with channel 1 as the other
+  pub other-way : answers (having 2)
+      (at 0 (on 2 ++ (0x90 ∷ 0 ∷ 60 ∷ [])) ∷ at 1 (pingOn 1) ∷ at 1 (goOn 0) ∷ at 100 (goOn 0) ∷ at 100 (on 2) ∷ [])
+      ≡ none ∷ told 1 6 ∷ told 1 6 ∷ none ∷ none ∷ []
   -- a wrong number: InvalidSeq, and the transaction is dropped
   pub wrong-number : answers (having 2) (at 0 begin118 ∷ at 1 (goOn 1) ∷ at 2 (goOn 0) ∷ []) ≡ none ∷ told 1 4 ∷ none ∷ []
   pub same-number : answers (having 2) (at 0 begin118 ∷ at 1 (goOn 0) ∷ at 2 (goOn 0) ∷ at 3 (goOn 1) ∷ []) ≡ none ∷ none ∷ told 1 4 ∷ none ∷ []
