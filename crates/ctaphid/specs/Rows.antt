@@ -159,13 +159,21 @@ pub record Rows : Type 0 where
 
 -- ---- further rows
 
--- bytes 1 to 64, but for byte 4, and those after a place
+-- so many numbers, from the least on
 abbrev pub upFrom : (least many : ℕ) → List ℕ
 upFrom n zero = []
 upFrom n (suc k) = n ∷ upFrom (n + 1) k
 
+-- 64 bytes that count from 1 on, but for byte 4
 abbrev pub counted : (byte4 : ℕ) → List ℕ
 counted b = 1 ∷ 2 ∷ 3 ∷ 4 ∷ b ∷ upFrom 6 59
+
+-- the lock and the receiver after LOCK 1 on channel 1 at 0, and after the first packet of 60 bytes
+abbrev pub lockedAt0 : Lock
+lockedAt0 = step (transportOf full 2) (at 0 (lockOf 1)) .state .lock
+
+abbrev pub begunAt0 : Receiver
+begunAt0 = step (transportOf full 2) (at 0 begin60) .state .receiver
 
 pub record FurtherRows : Type 0 where
   -- tables of numbers
@@ -220,8 +228,8 @@ pub record FurtherRows : Type 0 where
   pub broadcast-continuation : isValid 0xffff_ffff (continuation 0xffff_ffff 0 []) ≡ false
   -- a channel that isn't valid is told so, or gets nothing, before anything else: disabled, locked, or with a transaction that goes on
   pub invalid-first : answers (having 2)
-      (at 0 begin60 ∷ shutAt 1 (pingOn 3) ∷ shutAt 1 (on 3) ∷ at 2 (pingOn 3) ∷ at 2 (on 3) ∷ at 3 everywhere ∷ at 4 (goOn 0) ∷ [])
-      ≡ none ∷ told 3 11 ∷ none ∷ told 3 11 ∷ none ∷ none ∷ done60 ∷ []
+      (at 0 (lockOf 1) ∷ at 0 begin60 ∷ shutAt 1 (pingOn 3) ∷ shutAt 1 (on 3) ∷ at 2 (pingOn 3) ∷ at 2 (on 3) ∷ at 3 everywhere ∷ at 4 (goOn 0) ∷ [])
+      ≡ locks ∷ none ∷ told 3 11 ∷ none ∷ told 3 11 ∷ none ∷ none ∷ done60 ∷ []
   -- disabled: ChannelBusy, to continuations and to INIT too, and nothing alters
   pub disabled : answers (having 2)
       (at 0 begin60 ∷ shutAt 1 (pingOn 2) ∷ shutAt 2 (goOn 0) ∷ shutAt 3 (initOn (on 1)) ∷ shutAt 4 (initOn everywhere) ∷ shutAt 99 (goOn 1) ∷ at 99 (goOn 0) ∷ [])
@@ -244,22 +252,22 @@ pub record FurtherRows : Type 0 where
   -- a lock survives INIT on its channel
   pub lock-kept : answers (having 2) (at 0 (lockOf 1) ∷ at 1 (initOn (on 1)) ∷ at 2 (pingOn 2) ∷ []) ≡ locks ∷ welcome 1 (on 1) ∷ told 2 6 ∷ []
   -- the questions whether a lock runs, whose it is and against whom
-  pub lock-999 : (isLocked (step (transportOf full 2) (at 0 (lockOf 1)) .state .lock) 999 ≡ true)
-      × (isLockedBy (step (transportOf full 2) (at 0 (lockOf 1)) .state .lock) 1 999 ≡ true)
-      × (isLockedBy (step (transportOf full 2) (at 0 (lockOf 1)) .state .lock) 2 999 ≡ false)
-      × (isLockedAgainst (step (transportOf full 2) (at 0 (lockOf 1)) .state .lock) 1 999 ≡ false)
-      × (isLockedAgainst (step (transportOf full 2) (at 0 (lockOf 1)) .state .lock) 2 999 ≡ true)
-      × (isLockedBy (step (transportOf full 2) (at 0 (lockOf 1)) .state .lock) 0 999 ≡ false)
-      × (isLockedAgainst (step (transportOf full 2) (at 0 (lockOf 1)) .state .lock) 0 999 ≡ true)
-  pub lock-1000 : (isLocked (step (transportOf full 2) (at 0 (lockOf 1)) .state .lock) 1000 ≡ false)
-      × (isLockedBy (step (transportOf full 2) (at 0 (lockOf 1)) .state .lock) 1 1000 ≡ false)
-      × (isLockedAgainst (step (transportOf full 2) (at 0 (lockOf 1)) .state .lock) 2 1000 ≡ false)
+  pub lock-999 : (isLocked lockedAt0 999 ≡ true)
+      × (isLockedBy lockedAt0 1 999 ≡ true)
+      × (isLockedBy lockedAt0 2 999 ≡ false)
+      × (isLockedAgainst lockedAt0 1 999 ≡ false)
+      × (isLockedAgainst lockedAt0 2 999 ≡ true)
+      × (isLockedBy lockedAt0 0 999 ≡ false)
+      × (isLockedAgainst lockedAt0 0 999 ≡ true)
+  pub lock-1000 : (isLocked lockedAt0 1000 ≡ false)
+      × (isLockedBy lockedAt0 1 1000 ≡ false)
+      × (isLockedAgainst lockedAt0 2 1000 ≡ false)
   pub no-lock : (isLocked (fresh full .lock) 0 ≡ false) × (fresh full .lock .holder ≡ 0)
   -- the question whether a transaction is on
-  pub on-99 : (isOn (step (transportOf full 2) (at 0 begin60) .state .receiver) 1 99 ≡ true)
-      × (isOn (step (transportOf full 2) (at 0 begin60) .state .receiver) 1 100 ≡ false)
-      × (isOn (step (transportOf full 2) (at 0 begin60) .state .receiver) 2 99 ≡ false)
-      × (isOn (step (transportOf full 2) (at 0 begin60) .state .receiver) 0 99 ≡ false)
+  pub on-99 : (isOn begunAt0 1 99 ≡ true)
+      × (isOn begunAt0 1 100 ≡ false)
+      × (isOn begunAt0 2 99 ≡ false)
+      × (isOn begunAt0 0 99 ≡ false)
       × (isOn (fresh full .receiver) 0 0 ≡ false)
   -- the largest message that is taken is the maximum: 7,609, or a smaller one
   pub length-7609 : answers (having 2) (at 0 (on 1 ++ (0x81 ∷ 0x1d ∷ 0xb9 ∷ [])) ∷ at 1 (pingOn 2) ∷ []) ≡ none ∷ told 2 6 ∷ []
@@ -298,6 +306,9 @@ pub record FurtherRows : Type 0 where
   pub own-init : answers (having 2) (at 0 begin60 ∷ at 1 (initOn (on 1)) ∷ at 2 (goOn 0) ∷ []) ≡ none ∷ welcome 1 (on 1) ∷ none ∷ []
   pub own-init-60 : answers (having 2) (at 0 begin118 ∷ at 50 (on 1 ++ (0x86 ∷ 0 ∷ 60 ∷ [])) ∷ at 149 (goOn 0) ∷ []) ≡ none ∷ none ∷ told 1 3 ∷ []
   pub own-init-7610 : answers (having 2) (at 0 begin60 ∷ at 1 (on 1 ++ (0x86 ∷ 0x1d ∷ 0xba ∷ [])) ∷ at 2 (goOn 0) ∷ []) ≡ none ∷ told 1 3 ∷ none ∷ []
+  -- a declared length above the maximum is asked last: an own first packet is out of sequence, and another channel's meets a busy device
+  pub long-last : answers (having 2) (at 0 begin60 ∷ at 1 (on 2 ++ (0x81 ∷ 0x1d ∷ 0xba ∷ [])) ∷ at 2 (on 1 ++ (0x81 ∷ 0x1d ∷ 0xba ∷ [])) ∷ []) ≡ none ∷ told 2 6 ∷ told 1 4 ∷ []
+  pub long-late : answers (having 2) (at 0 begin60 ∷ at 100 (on 1 ++ (0x81 ∷ 0x1d ∷ 0xba ∷ [])) ∷ at 101 (goOn 0) ∷ []) ≡ none ∷ told 1 3 ∷ none ∷ []
   -- a continuation with nothing before it
   pub no-first : answers (having 2) (at 0 (goOn 0) ∷ at 0 (goOn 1) ∷ []) ≡ none ∷ none ∷ []
   -- a broadcast INIT declared 60 blocks all others for 100 ms, and its continuation gets nothing
