@@ -249,6 +249,11 @@ pub record FurtherRows : Type 0 where
   pub lock-errors : answers (having 2)
       (at 0 (lockOf 1) ∷ at 1 (on 1 ++ (0x84 ∷ [])) ∷ at 2 (lockOf 11) ∷ at 3 (on 1 ++ (0x84 ∷ 0 ∷ 2 ∷ [])) ∷ at 999 (pingOn 2) ∷ at 1000 (pingOn 2) ∷ [])
       ≡ locks ∷ told 1 3 ∷ told 1 2 ∷ told 1 3 ∷ told 2 6 ∷ echo 2 ∷ []
+  -- LOCK of 2 bytes is told its length before its seconds
+  pub lock-length-first : answers (having 2) (at 0 (on 1 ++ (0x84 ∷ 0 ∷ 2 ∷ 11 ∷ [])) ∷ []) ≡ told 1 3 ∷ []
+  -- a lock survives any error of its channel
+  pub lock-through-errors : answers (having 2) (at 0 (lockOf 1) ∷ at 1 begin60 ∷ at 2 (goOn 1) ∷ at 3 (on 1 ++ (0x82 ∷ [])) ∷ at 4 (pingOn 2) ∷ [])
+      ≡ locks ∷ none ∷ told 1 4 ∷ told 1 1 ∷ told 2 6 ∷ []
   -- a lock survives INIT on its channel
   pub lock-kept : answers (having 2) (at 0 (lockOf 1) ∷ at 1 (initOn (on 1)) ∷ at 2 (pingOn 2) ∷ []) ≡ locks ∷ welcome 1 (on 1) ∷ told 2 6 ∷ []
   -- the questions whether a lock runs, whose it is and against whom
