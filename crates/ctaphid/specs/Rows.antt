@@ -4,6 +4,7 @@ use mathlib.Core.Path.{_≡_}
 use mathlib.Core.List.{List, [], _∷_, _++_, map}
 use mathlib.Core.Bool.{Bool, true, false}
 use lib.ListN.{length, getD, replicate}
+use Rattle.ctaphid.specs.Choice.{refusing}
 use Rattle.ctaphid.specs.Packets.{Packet, initialization, continuation, byte, read, Bytes}
 use Rattle.ctaphid.specs.Messages.{count, wire, splitWire}
 use Rattle.ctaphid.specs.Commands.{Command, MSG, CBOR, INIT, PING, CANCEL, ERROR, KEEPALIVE, WINK, LOCK, number, is, commandOf}
@@ -186,6 +187,10 @@ pub record FurtherRows : Type 0 where
   pub capability-bits : map bit (wink ∷ cbor ∷ nmsg ∷ []) ≡ 1 ∷ 4 ∷ 8 ∷ []
   pub capability-bytes : map capabilities (true ∷ false ∷ []) ≡ 5 ∷ 13 ∷ []
   pub limits : packetSize ∷ largest ∷ timeout ∷ winkTime ∷ lastTime ∷ [] ≡ 64 ∷ 7609 ∷ 100 ∷ 5000 ∷ 281474976710655 ∷ []
+  -- the first test that holds refuses; where none does, none
+  pub refuses : (refusing (λ (n : ℕ). n) ((false, 3) ∷ (true, 4) ∷ (true, 5) ∷ []) 9 ≡ 4) × (refusing (λ (n : ℕ). n) ((false, 3) ∷ []) 9 ≡ 9)
+  -- past its end a packet has 0
+  pub past-the-end : byte [] 0 ≡ 0
   -- packets read and written: each byte at its place, and a top bit in byte 4 or none
   pub reads-first : read (counted 0x80) ≡ initialization 0x0102_0304 0 0x0607 (upFrom 8 57)
   pub reads-first-255 : read (counted 0xff) ≡ initialization 0x0102_0304 127 0x0607 (upFrom 8 57)
