@@ -4,6 +4,7 @@ use mathlib.Core.Path.{_≡_}
 use mathlib.Core.List.{List, [], _∷_, _++_, map}
 use mathlib.Core.Bool.{Bool, true, false}
 use lib.ListN.{length, getD, replicate}
+use Rattle.ctaphid.specs.Choice.{refusing}
 use Rattle.ctaphid.specs.Packets.{Packet, initialization, continuation, byte, read, Bytes}
 use Rattle.ctaphid.specs.Messages.{count, wire, splitWire}
 use Rattle.ctaphid.specs.Commands.{Command, MSG, CBOR, INIT, PING, CANCEL, ERROR, KEEPALIVE, WINK, LOCK, number, is, commandOf}
@@ -11,7 +12,7 @@ use Rattle.ctaphid.specs.Errors.{InvalidCmd, InvalidPar, InvalidLen, Inv
 use Rattle.ctaphid.specs.Capabilities.{wink, cbor, nmsg, bit, capabilities}
 use Rattle.ctaphid.specs.Limits.{packetSize, largest, timeout, winkTime, lastTime}
 use Rattle.ctaphid.specs.Receiver.{Receiver, idle, isOn}
-use Rattle.ctaphid.specs.Transport.{Settings, Lock, free, Transport, fresh, Event, Answer, nothing, reply, request, isLocked, isLockedBy, isLockedAgainst, withAllocated, withLock, withReceiver, step, run}
+use Rattle.ctaphid.specs.Transport.{Settings, Lock, free, Transport, fresh, Event, Answer, nothing, reply, request, isValid, isLocked, isLockedBy, isLockedAgainst, withAllocated, withLock, withReceiver, step, run}
 use Rattle.ctaphid.specs.Device.{Device, device, setUp, deviceStep, deviceRun, isWinking}
 
 -- ---- what a row is made of
@@ -159,13 +160,21 @@ pub record Rows : Type 0 where
 
 -- ---- further rows
 
--- bytes 1 to 64, but for byte 4, and those after a place
+-- so many numbers, from the least on
 abbrev pub upFrom : (least many : ℕ) → List ℕ
 upFrom n zero = []
 upFrom n (suc k) = n ∷ upFrom (n + 1) k
 
+-- 64 bytes that count from 1 on, but for byte 4
 abbrev pub counted : (byte4 : ℕ) → List ℕ
 counted b = 1 ∷ 2 ∷ 3 ∷ 4 ∷ b ∷ upFrom 6 59
+
+-- the lock and the receiver after LOCK 1 on channel 1 at 0, and after the first packet of 60 bytes
+abbrev pub lockedAt0 : Lock
+lockedAt0 = step (transportOf full 2) (at 0 (lockOf 1)) .state .lock
+
+abbrev pub begunAt0 : Receiver
+begunAt0 = step (transportOf full 2) (at 0 begin60) .state .receiver
 
 pub record FurtherRows : Type 0 where
   -- tables of numbers
@@ -178,6 +187,10 @@ pub record FurtherRows : Type 0 where
   pub capability-bits : map bit (wink ∷ cbor ∷ nmsg ∷ []) ≡ 1 ∷ 4 ∷ 8 ∷ []
   pub capability-bytes : map capabilities (true ∷ false ∷ []) ≡ 5 ∷ 13 ∷ []
   pub limits : packetSize ∷ largest ∷ timeout ∷ winkTime ∷ lastTime ∷ [] ≡ 64 ∷ 7609 ∷ 100 ∷ 5000 ∷ 281474976710655 ∷ []
+  -- the first test that holds refuses; where none does, none
+  pub refuses : (refusing (λ (n : ℕ). n) ((false, 3) ∷ (true, 4) ∷ (true, 5) ∷ []) 9 ≡ 4) × (refusing (λ (n : ℕ). n) ((false, 3) ∷ []) 9 ≡ 9)
+  -- past its end a packet has 0
+  pub past-the-end : byte [] 0 ≡ 0
   -- packets read and written: each byte at its place, and a top bit in byte 4 or none
   pub reads-first : read (counted 0x80) ≡ initialization 0x0102_0304 0 0x0607 (upFrom 8 57)
   pub reads-first-255 : read (counted 0xff) ≡ initialization 0x0102_0304 127 0x0607 (upFrom 8 57)
@@ -213,10 +226,15 @@ pub record FurtherRows : Type 0 where
   -- INIT of 7 and of 9 bytes: InvalidLen, and no channel
   pub init-7 : answers (having 2) (at 0 (everywhere ++ (0x86 ∷ 0 ∷ 7 ∷ nonce)) ∷ at 0 (pingOn 3) ∷ []) ≡ told 0xffff_ffff 3 ∷ told 3 11 ∷ []
   pub init-9 : answers (having 2) (at 0 (everywhere ++ (0x86 ∷ 0 ∷ 9 ∷ nonce)) ∷ at 0 (on 1 ++ (0x86 ∷ 0 ∷ 9 ∷ nonce)) ∷ []) ≡ told 0xffff_ffff 3 ∷ told 1 3 ∷ []
+  -- the broadcast channel is for INIT alone, whatever the count
+  pub broadcast-others : answers (having 2)
+      (at 0 (everywhere ++ (0x85 ∷ [])) ∷ at 0 (everywhere ++ (0x87 ∷ [])) ∷ at 0 (everywhere ++ (0x90 ∷ [])) ∷ at 0 everywhere ∷ [])
+      ≡ told 0xffff_ffff 11 ∷ told 0xffff_ffff 11 ∷ told 0xffff_ffff 11 ∷ none ∷ []
+  pub broadcast-continuation : isValid 0xffff_ffff (continuation 0xffff_ffff 0 []) ≡ false
   -- a channel that isn't valid is told so, or gets nothing, before anything else: disabled, locked, or with a transaction that goes on
   pub invalid-first : answers (having 2)
-      (at 0 begin60 ∷ shutAt 1 (pingOn 3) ∷ shutAt 1 (on 3) ∷ at 2 (pingOn 3) ∷ at 2 (on 3) ∷ at 3 everywhere ∷ at 4 (goOn 0) ∷ [])
-      ≡ none ∷ told 3 11 ∷ none ∷ told 3 11 ∷ none ∷ none ∷ done60 ∷ []
+      (at 0 (lockOf 1) ∷ at 0 begin60 ∷ shutAt 1 (pingOn 3) ∷ shutAt 1 (on 3) ∷ at 2 (pingOn 3) ∷ at 2 (on 3) ∷ at 3 everywhere ∷ at 4 (goOn 0) ∷ [])
+      ≡ locks ∷ none ∷ told 3 11 ∷ none ∷ told 3 11 ∷ none ∷ none ∷ done60 ∷ []
   -- disabled: ChannelBusy, to continuations and to INIT too, and nothing alters
   pub disabled : answers (having 2)
       (at 0 begin60 ∷ shutAt 1 (pingOn 2) ∷ shutAt 2 (goOn 0) ∷ shutAt 3 (initOn (on 1)) ∷ shutAt 4 (initOn everywhere) ∷ shutAt 99 (goOn 1) ∷ at 99 (goOn 0) ∷ [])
@@ -226,6 +244,7 @@ pub record FurtherRows : Type 0 where
   -- a lock: its channel is served, others are busy, a broadcast INIT and continuations too
   pub locked : answers (having 2) (at 500 (lockOf 1) ∷ at 501 (pingOn 1) ∷ at 502 (initOn everywhere) ∷ at 503 (on 2) ∷ at 1499 (pingOn 2) ∷ at 1500 (pingOn 2) ∷ [])
       ≡ locks ∷ echo 1 ∷ told 0xffff_ffff 6 ∷ told 2 6 ∷ told 2 6 ∷ echo 2 ∷ []
+  pub locked-other-way : answers (having 2) (at 0 (on 2 ++ (0x84 ∷ 0 ∷ 1 ∷ 1 ∷ [])) ∷ at 1 (pingOn 1) ∷ at 1 (pingOn 2) ∷ []) ≡ sends 2 4 [] ∷ told 1 6 ∷ echo 2 ∷ []
   -- the lock is asked before the transaction: another channel's packet past the deadline leaves it
   pub lock-first : answers (having 2) (at 0 (lockOf 1) ∷ at 1 begin60 ∷ at 101 (pingOn 2) ∷ at 102 (goOn 0) ∷ []) ≡ locks ∷ none ∷ told 2 6 ∷ told 1 5 ∷ []
   -- LOCK 0 releases, and a second LOCK counts anew
@@ -235,22 +254,30 @@ pub record FurtherRows : Type 0 where
   pub lock-errors : answers (having 2)
       (at 0 (lockOf 1) ∷ at 1 (on 1 ++ (0x84 ∷ [])) ∷ at 2 (lockOf 11) ∷ at 3 (on 1 ++ (0x84 ∷ 0 ∷ 2 ∷ [])) ∷ at 999 (pingOn 2) ∷ at 1000 (pingOn 2) ∷ [])
       ≡ locks ∷ told 1 3 ∷ told 1 2 ∷ told 1 3 ∷ told 2 6 ∷ echo 2 ∷ []
+  -- LOCK of 2 bytes is told its length before its seconds
+  pub lock-length-first : answers (having 2) (at 0 (on 1 ++ (0x84 ∷ 0 ∷ 2 ∷ 11 ∷ [])) ∷ []) ≡ told 1 3 ∷ []
+  -- a lock survives any error of its channel
+  pub lock-through-errors : answers (having 2) (at 0 (lockOf 1) ∷ at 1 begin60 ∷ at 2 (goOn 1) ∷ at 3 (on 1 ++ (0x82 ∷ [])) ∷ at 4 (pingOn 2) ∷ [])
+      ≡ locks ∷ none ∷ told 1 4 ∷ told 1 1 ∷ told 2 6 ∷ []
   -- a lock survives INIT on its channel
   pub lock-kept : answers (having 2) (at 0 (lockOf 1) ∷ at 1 (initOn (on 1)) ∷ at 2 (pingOn 2) ∷ []) ≡ locks ∷ welcome 1 (on 1) ∷ told 2 6 ∷ []
   -- the questions whether a lock runs, whose it is and against whom
-  pub lock-999 : (isLocked (step (transportOf full 2) (at 0 (lockOf 1)) .state .lock) 999 ≡ true)
-      × (isLockedBy (step (transportOf full 2) (at 0 (lockOf 1)) .state .lock) 1 999 ≡ true)
-      × (isLockedBy (step (transportOf full 2) (at 0 (lockOf 1)) .state .lock) 2 999 ≡ false)
-      × (isLockedAgainst (step (transportOf full 2) (at 0 (lockOf 1)) .state .lock) 1 999 ≡ false)
-      × (isLockedAgainst (step (transportOf full 2) (at 0 (lockOf 1)) .state .lock) 2 999 ≡ true)
-  pub lock-1000 : (isLocked (step (transportOf full 2) (at 0 (lockOf 1)) .state .lock) 1000 ≡ false)
-      × (isLockedBy (step (transportOf full 2) (at 0 (lockOf 1)) .state .lock) 1 1000 ≡ false)
-      × (isLockedAgainst (step (transportOf full 2) (at 0 (lockOf 1)) .state .lock) 2 1000 ≡ false)
+  pub lock-999 : (isLocked lockedAt0 999 ≡ true)
+      × (isLockedBy lockedAt0 1 999 ≡ true)
+      × (isLockedBy lockedAt0 2 999 ≡ false)
+      × (isLockedAgainst lockedAt0 1 999 ≡ false)
+      × (isLockedAgainst lockedAt0 2 999 ≡ true)
+      × (isLockedBy lockedAt0 0 999 ≡ false)
+      × (isLockedAgainst lockedAt0 0 999 ≡ true)
+  pub lock-1000 : (isLocked lockedAt0 1000 ≡ false)
+      × (isLockedBy lockedAt0 1 1000 ≡ false)
+      × (isLockedAgainst lockedAt0 2 1000 ≡ false)
   pub no-lock : (isLocked (fresh full .lock) 0 ≡ false) × (fresh full .lock .holder ≡ 0)
   -- the question whether a transaction is on
-  pub on-99 : (isOn (step (transportOf full 2) (at 0 begin60) .state .receiver) 1 99 ≡ true)
-      × (isOn (step (transportOf full 2) (at 0 begin60) .state .receiver) 1 100 ≡ false)
-      × (isOn (step (transportOf full 2) (at 0 begin60) .state .receiver) 2 99 ≡ false)
+  pub on-99 : (isOn begunAt0 1 99 ≡ true)
+      × (isOn begunAt0 1 100 ≡ false)
+      × (isOn begunAt0 2 99 ≡ false)
+      × (isOn begunAt0 0 99 ≡ false)
       × (isOn (fresh full .receiver) 0 0 ≡ false)
   -- the largest message that is taken is the maximum: 7,609, or a smaller one
   pub length-7609 : answers (having 2) (at 0 (on 1 ++ (0x81 ∷ 0x1d ∷ 0xb9 ∷ [])) ∷ at 1 (pingOn 2) ∷ []) ≡ none ∷ told 2 6 ∷ []
@@ -275,6 +302,10 @@ pub record FurtherRows : Type 0 where
   pub timeout-once : answers (having 2) (at 0 begin60 ∷ at 100 (goOn 0) ∷ at 100 (goOn 0) ∷ []) ≡ none ∷ told 1 5 ∷ none ∷ []
   pub timeout-other : answers (having 2) (at 0 begin60 ∷ at 100 (on 2) ∷ at 100 (goOn 0) ∷ []) ≡ none ∷ none ∷ none ∷ []
   pub timeout-served : answers (having 2) (at 0 begin60 ∷ at 100 (pingOn 2) ∷ at 100 (goOn 0) ∷ []) ≡ none ∷ echo 2 ∷ none ∷ []
+  -- the same of a transaction on channel 2, with channel 1 as the other
+  pub other-way : answers (having 2)
+      (at 0 (on 2 ++ (0x90 ∷ 0 ∷ 60 ∷ [])) ∷ at 1 (pingOn 1) ∷ at 1 (goOn 0) ∷ at 100 (goOn 0) ∷ at 100 (on 2) ∷ [])
+      ≡ none ∷ told 1 6 ∷ told 1 6 ∷ none ∷ none ∷ []
   -- a wrong number: InvalidSeq, and the transaction is dropped
   pub wrong-number : answers (having 2) (at 0 begin118 ∷ at 1 (goOn 1) ∷ at 2 (goOn 0) ∷ []) ≡ none ∷ told 1 4 ∷ none ∷ []
   pub same-number : answers (having 2) (at 0 begin118 ∷ at 1 (goOn 0) ∷ at 2 (goOn 0) ∷ at 3 (goOn 1) ∷ []) ≡ none ∷ none ∷ told 1 4 ∷ none ∷ []
@@ -285,6 +316,9 @@ pub record FurtherRows : Type 0 where
   pub own-init : answers (having 2) (at 0 begin60 ∷ at 1 (initOn (on 1)) ∷ at 2 (goOn 0) ∷ []) ≡ none ∷ welcome 1 (on 1) ∷ none ∷ []
   pub own-init-60 : answers (having 2) (at 0 begin118 ∷ at 50 (on 1 ++ (0x86 ∷ 0 ∷ 60 ∷ [])) ∷ at 149 (goOn 0) ∷ []) ≡ none ∷ none ∷ told 1 3 ∷ []
   pub own-init-7610 : answers (having 2) (at 0 begin60 ∷ at 1 (on 1 ++ (0x86 ∷ 0x1d ∷ 0xba ∷ [])) ∷ at 2 (goOn 0) ∷ []) ≡ none ∷ told 1 3 ∷ none ∷ []
+  -- a declared length above the maximum is asked last: an own first packet is out of sequence, and another channel's meets a busy device
+  pub long-last : answers (having 2) (at 0 begin60 ∷ at 1 (on 2 ++ (0x81 ∷ 0x1d ∷ 0xba ∷ [])) ∷ at 2 (on 1 ++ (0x81 ∷ 0x1d ∷ 0xba ∷ [])) ∷ []) ≡ none ∷ told 2 6 ∷ told 1 4 ∷ []
+  pub long-late : answers (having 2) (at 0 begin60 ∷ at 100 (on 1 ++ (0x81 ∷ 0x1d ∷ 0xba ∷ [])) ∷ at 101 (goOn 0) ∷ []) ≡ none ∷ told 1 3 ∷ none ∷ []
   -- a continuation with nothing before it
   pub no-first : answers (having 2) (at 0 (goOn 0) ∷ at 0 (goOn 1) ∷ []) ≡ none ∷ none ∷ []
   -- a broadcast INIT declared 60 blocks all others for 100 ms, and its continuation gets nothing
