@@ -5,3 +5,4 @@ pub mod Splitting
 pub mod Messages
 pub mod Transport
 pub mod Invariant
+pub mod RoundTrip

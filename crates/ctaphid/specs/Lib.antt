@@ -9,3 +9,4 @@ pub mod Receiver
 pub mod Transport
 pub mod Device
 pub mod Demands
+pub mod Host
