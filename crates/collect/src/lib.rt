@@ -5,6 +5,7 @@ ghost use lib.ListN.{length};
 ghost use mathlib.Core.List.{_++_};
 ghost use lib.ListN.{take, drop};
 ghost use Rattle.collect.specs.Adding.{added, addOf};
+ghost use Rattle.collect.specs.Standing.{isStanding};
 
 pub enum Added {
     // So many bytes are there, and more are due.
@@ -39,4 +40,21 @@ fn put(message: &mut [u8], at: usize, data: &[u8])
     ensures { λ _. ⌜ now (message .exit) ≡ take at (now (message .entry)) ++ (now («data» .entry) ++ drop (at + length (now («data» .entry))) (now (message .entry))) ⌝ }
 {
     bytes::copy(data, &mut message[at..]);
+}
+
+// Whether the lengths and the number due of a message that is half there make sense. One of 57 bytes or fewer is never half there.
+pub fn stands(most: usize, len: usize, taken: usize, seq: u16) -> bool
+    ensures { λ r. ⌜ r ≡ isStanding most len taken seq ⌝ }
+{
+    let at = 57 + 59 * (seq as usize);
+    if len <= 57 {
+        return false;
+    }
+    if len > most {
+        return false;
+    }
+    if len <= at {
+        return false;
+    }
+    at == taken
 }

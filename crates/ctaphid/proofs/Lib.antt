@@ -18,3 +18,4 @@ pub mod InstancesBounds
 pub mod Sharp
 pub mod WrongBounds
 pub mod Rows
+pub mod RoundTrip

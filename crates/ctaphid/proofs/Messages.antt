@@ -18,7 +18,7 @@ getD-map h (x ∷ l) (suc i) a b p = getD-map h l i a b (omega arith)
 
 -- ---- continuation packets
 module _ (c : ℕ) where
-  continuations-length : (k : ℕ) (l : List (List ℕ)) → length (continuations c k l) ≡ length l
+  pub continuations-length : (k : ℕ) (l : List (List ℕ)) → length (continuations c k l) ≡ length l
   unfolding continuations
   continuations-length k [] = refl
   continuations-length k (field ∷ l) = ap suc (continuations-length (k + 1) l)

@@ -1,6 +1,6 @@
 -- Definitions that go by tests. Assumes nothing.
 use Prim.Native.Nat.{ℕ}
-use mathlib.Core.Bool.{Bool, cond}
+use mathlib.Core.Bool.{Bool, true, false, cond}
 use mathlib.Core.List.{List, [], _∷_}
 
 -- the first where the test holds, and else the second: the library's `cond`, kept shut so that a proof follows one test at a time
@@ -11,3 +11,9 @@ pick test a b = cond test a b
 abbrev pub refusing : {A : Type 0} → (ℕ → A) → List (Bool × ℕ) → A → A
 refusing refused [] a = a
 refusing refused ((test, number) ∷ rest) a = pick test (refused number) (refusing refused rest a)
+
+-- whether all of these hold
+abbrev pub every : List Bool → Bool
+every [] = true
+every (test ∷ []) = test
+every (test ∷ (other ∷ rest)) = pick test (every (other ∷ rest)) false

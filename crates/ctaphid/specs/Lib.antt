@@ -12,3 +12,4 @@ pub mod Demands
 pub mod Wrong
 pub mod WrongBounds
 pub mod Rows
+pub mod Host

@@ -12,11 +12,6 @@ use Rattle.ctaphid.specs.Limits.{lastTime, packetSize}
 use Rattle.ctaphid.specs.Packets.{Packet, initialization, continuation, read, Bytes, Formed}
 use Rattle.ctaphid.proofs.Tests.{pick-known}
 use Rattle.ctaphid.proofs.Packets.{read-formed}
-use Rattle.packet.specs.Reading.{Read, packet, refused, readingOf, heard, said, fieldOf, IsField}
-use Rattle.packet.proofs.Packets.{reading-is}
-use Rattle.packet.specs.declared.ProcessedPacket.{ProcessedPacket}
-use Rattle.packet.specs.declared.Reading.{Reading}
-use Rattle.packet.specs.declared.Reading.the-variants as reading
 use Rattle.hid.specs.declared.CtapHid.{CtapHid}
 use Rattle.hid.specs.declared.Answer.the-variants.{Refused}
 use Rattle.hid.specs.declared.Stepped.{Stepped}
@@ -143,27 +138,7 @@ module _ (s : CtapHid) (time : ℕ) (disabled : Bool) (p m r : List ℕ) {n : �
   unfolding stepOf
   step-heard none x k = k ∙ sym (none-refuse s 0 time p m r n e none (λ number. stepping (record { hid = s; answer = Refused number }) m r) (heardOf s time disabled (read p) m r))
 
--- ---- a packet of 64 bytes is read
-module _ (p : List ℕ) (size : length p ≡ 64) (x : Reading) (e : said x (fieldOf (readingOf p)) ≡ readingOf p) where
-  pub never-refused : {n : ℕ} {A : Type 0} → x ≡ reading.Refused n → A
-  never-refused {n} k =
-      let z : refused n ≡ packet (read p) = sym (ap (λ (y : Reading). said y (fieldOf (readingOf p))) k) ∙ (e ∙ reading-is p size) in
-      absurd (subst (λ (y : Read). kind y) z tt)
-    where
-      kind : Read → Type 0
-      kind (refused number) = Unit {0}
-      kind (packet q) = ⊥
-
-  pub packet-read : {processed : ProcessedPacket} (field : List ℕ) → x ≡ reading.Packet processed → field ≡ fieldOf (readingOf p) → heard processed field ≡ read p
-  packet-read {processed} field k f =
-      ap (heard processed) f
-      ∙ ap taken (sym (ap (λ (y : Reading). said y (fieldOf (readingOf p))) k) ∙ (e ∙ reading-is p size))
-    where
-      taken : Read → Packet
-      taken (refused number) = read p
-      taken (packet q) = q
-
--- ---- and heard
+-- ---- a packet that was read is heard
 module _ (s : CtapHid) (time : ℕ) (p m r : List ℕ) (nx : CtapHid) (is : nx ≡ arriving s time) (asks : Admits s time p m r) (q : Packet) (e : q ≡ read p) where
   pub hears-packet : Bytes p → Hears nx q m r
   hears-packet bytes =

@@ -1,11 +1,11 @@
 -- A sound state, as the scope lists it, in its order: as facts, and as the test that the code makes. Assumes nothing.
 use Prim.Native.Nat.{ℕ, _+_, _*_, _≤_, _<_}
 use mathlib.Core.Path.{_≡_}
-use mathlib.Core.List.{List, [], _∷_}
+use mathlib.Core.List.{[], _∷_}
 use mathlib.Core.Bool.{Bool, true, false}
 use mathlib.Core.Logic.{_⊎_}
 use lib.Dec.{ltb, leb, eqb}
-use Rattle.ctaphid.specs.Choice.{pick}
+use Rattle.ctaphid.specs.Choice.{pick, every}
 use Rattle.ctaphid.specs.Transport.{isAllocated}
 use Rattle.hid.specs.declared.MessageAssembler.{MessageAssembler}
 use Rattle.hid.specs.declared.CtapHid.{CtapHid}
@@ -34,12 +34,6 @@ pub record Sound (s : CtapHid) (until : ℕ) : Type 0 where
   pub transaction : (s .assembler .len ≡ 0 → ⊥) → Transacts (s .max) (s .allocated) (s .assembler)
 
 -- ---- the same as a test
-
--- whether all of these hold
-abbrev pub every : List Bool → Bool
-every [] = true
-every (test ∷ []) = test
-every (test ∷ (other ∷ rest)) = pick test (every (other ∷ rest)) false
 
 unfoldable pub isOnChannel : (allocated channel command : ℕ) → Bool
 isOnChannel allocated c cmd = pick (isAllocated allocated c) true (pick (eqb c 0xffff_ffff) (eqb cmd 6) false)

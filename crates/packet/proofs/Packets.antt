@@ -1,14 +1,15 @@
 -- What reading a packet answers, and that it says which answer it was. Assumes nothing.
 use Prim.Native.Nat.{ℕ, _-_, _≤_, _<_}
-use mathlib.Core.Path.{_≡_, refl, sym, ap, _∙_}
+use mathlib.Core.Path.{_≡_, refl, sym, ap, subst, _∙_}
 use mathlib.Core.List.{List}
 use borrow.Author.Tests.{eq-eqb, ne-eqb}
 use lib.ListN.{length, drop}
 use Rattle.ctaphid.specs.Choice.{pick}
 use Rattle.ctaphid.specs.Limits.{packetSize}
-use Rattle.ctaphid.specs.Packets.{initialization, continuation, byte, channelIn, declaredIn, read}
+use Rattle.ctaphid.specs.Packets.{Packet, initialization, continuation, byte, channelIn, declaredIn, read}
 use Rattle.ctaphid.proofs.Packets.{read-first, read-later}
-use Rattle.packet.specs.Reading.{Read, refused, packet, readingOf, said}
+use Rattle.packet.specs.Reading.{Read, refused, packet, readingOf, heard, said, fieldOf}
+use Rattle.packet.specs.declared.ProcessedPacket.{ProcessedPacket}
 use Rattle.packet.specs.declared.ProcessedPacket.the-variants.{InitPacket, ContinuationPacket}
 use Rattle.packet.specs.declared.Reading.{Reading}
 use Rattle.packet.specs.declared.Reading.the-variants as reading
@@ -42,3 +43,23 @@ answer-said (reading.Refused number) field = refl
 -- two answers that say the same are the same
 pub said-one : (field : List ℕ) (x y : Reading) → said x field ≡ said y field → x ≡ y
 said-one field x y e = sym (answer-said x field) ∙ (ap answer e ∙ answer-said y field)
+
+-- ---- a packet of 64 bytes is read
+module _ (p : List ℕ) (size : length p ≡ 64) (x : Reading) (e : said x (fieldOf (readingOf p)) ≡ readingOf p) where
+  pub never-refused : {n : ℕ} {A : Type 0} → x ≡ reading.Refused n → A
+  never-refused {n} k =
+      let z : refused n ≡ packet (read p) = sym (ap (λ (y : Reading). said y (fieldOf (readingOf p))) k) ∙ (e ∙ reading-is p size) in
+      absurd (subst (λ (y : Read). kind y) z tt)
+    where
+      kind : Read → Type 0
+      kind (refused number) = Unit {0}
+      kind (packet q) = ⊥
+
+  pub packet-read : {processed : ProcessedPacket} (field : List ℕ) → x ≡ reading.Packet processed → field ≡ fieldOf (readingOf p) → heard processed field ≡ read p
+  packet-read {processed} field k f =
+      ap (heard processed) f
+      ∙ ap taken (sym (ap (λ (y : Reading). said y (fieldOf (readingOf p))) k) ∙ (e ∙ reading-is p size))
+    where
+      taken : Read → Packet
+      taken (refused number) = read p
+      taken (packet q) = q

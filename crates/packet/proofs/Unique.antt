@@ -11,6 +11,7 @@ use Rattle.packet.proofs.Numbers.{meant-one}
 use Rattle.packet.proofs.Packets.{said-one}
 use Rattle.packet.proofs.process_single_packet as process
 use Rattle.packet.proofs.packet_data as part
+use Rattle.packet.proofs.be32 as be32
 use Rattle.packet.proofs.command.CtapHidCommand.from_u8 as from-u8
 use Rattle.packet.proofs.command.CtapHidCommand.number as number
 use Rattle.packet.proofs.error.CtapHidError.code as code
@@ -26,6 +27,12 @@ pub process-single-packet-one : OneOutcome process.ended (λ M 𝓤. process.cla
 process-single-packet-one = record {
   stated = λ M 𝓤 H A mem run. refl;
   one = λ 𝓤 H A mem run κs a g x y v w. from-facts 𝓤 (λ p q. (said-one _ x y (p ∙ sym q), refl));
+}
+
+pub be32-one : OneOutcome be32.ended (λ M 𝓤. be32.clauses 𝓤) (λ M 𝓤. be32.spec 𝓤)
+be32-one = record {
+  stated = λ M 𝓤 H A mem run. refl;
+  one = λ 𝓤 H A mem run κs a g x y v w. from-facts 𝓤 (λ p q. (p ∙ sym q, refl));
 }
 
 pub from-u8-one : OneOutcome from-u8.ended (λ M 𝓤. from-u8.clauses 𝓤) (λ M 𝓤. from-u8.spec 𝓤)

@@ -60,7 +60,8 @@ pub fn packet_data(packet: &[u8]) -> &[u8]
 
 const INIT_BIT: u8 = 0x80;
 
-fn be32(a: u8, b: u8, c: u8, d: u8) -> u32
+// Four bytes as a number, most significant first.
+pub fn be32(a: u8, b: u8, c: u8, d: u8) -> u32
     ensures { λ r. ⌜ r ≡ a * 0x100_0000 + b * 0x1_0000 + c * 0x100 + d ⌝ }
 {
     (a as u32) * 0x100_0000 + (b as u32) * 0x1_0000 + (c as u32) * 0x100 + (d as u32)

@@ -1,6 +1,7 @@
 -- `process_packet` meets its contract. Assumes nothing.
 use Rattle.hid.proofs.Hearing.{arrived}
-use Rattle.hid.proofs.Refusing.{never-refused, packet-read, hears-packet, heard-packet}
+use Rattle.packet.proofs.Packets.{never-refused, packet-read}
+use Rattle.hid.proofs.Refusing.{hears-packet, heard-packet}
 use native.Mathlib.Omega.{arith}
 use borrow.Author.Needs.{needs}
 use Rattle.hid.proofs.transport.process_packet.Statement.{statement}

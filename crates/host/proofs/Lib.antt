@@ -1,0 +1,4 @@
+pub mod Sound
+pub mod Receiving
+pub mod Refusing
+pub mod Fields
