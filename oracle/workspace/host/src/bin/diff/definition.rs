@@ -1,0 +1,286 @@
+//! The scope's rules for a step, written once more by hand. It says what the buffers must hold after
+//! each step; and with a fault planted it takes our library's place, to see that the fault is found.
+use crate::ours::{CtapHid, ECHO, MESSAGE, MessageAssembler, NOTHING, Outcome, REPLY};
+
+pub const BROADCAST: u32 = 0xffff_ffff;
+
+/// Faults of a step, and of the three functions beside it.
+pub const FAULTS: [&str; 24] = [
+    "first-number-1",
+    "timer-99",
+    "timer-101",
+    "lock-11-as-10",
+    "init-through-lock",
+    "other-channel-is-life",
+    "wink-ends-on-taken",
+    "channel-2-kept",
+    "length-over",
+    "length-under",
+    "lock-999",
+    "lock-1001",
+    "wink-4999",
+    "wink-5001",
+    "timeout-on-first",
+    "cancel-in-message",
+    "spare-bytes-written",
+    "last-byte-not-written",
+    "reply-buffer-cleared",
+    "57-begins-a-transaction",
+    "sender-number-1",
+    "sender-stale-bytes",
+    "reader-length-swapped",
+    "split-long-at-7610",
+];
+
+#[derive(Clone, Debug)]
+pub struct Definition {
+    pub hid: CtapHid,
+    pub wink: u64,
+    fault: &'static str,
+}
+
+/// What a step does beside altering the state: bytes to be written, and the answers of the
+/// transport alone and of the device.
+pub struct Effect {
+    pub at: usize,
+    pub data: std::ops::Range<usize>,
+    pub inner: Outcome,
+    pub inner_reply: Vec<u8>,
+    pub outer: Outcome,
+    pub outer_reply: Vec<u8>,
+}
+
+fn told(kind: u8, cid: u32, cmd: u8, len: usize) -> Outcome {
+    Outcome {
+        len,
+        cid,
+        kind,
+        cmd,
+        refusal: 0,
+        spare: 0,
+    }
+}
+
+impl Definition {
+    pub fn new(max: usize, u2f: bool, allocated: u32, fault: &'static str) -> Self {
+        Definition {
+            hid: CtapHid {
+                max: max as u32,
+                u2f: u2f as u32,
+                allocated,
+                ..CtapHid::default()
+            },
+            wink: 0,
+            fault,
+        }
+    }
+
+    pub fn is(&self, fault: &str) -> bool {
+        self.fault == fault
+    }
+
+    /// `message` is the message buffer as it is lent.
+    pub fn step(&mut self, time: u64, disabled: bool, packet: &[u8; 64], message: &[u8]) -> Effect {
+        let mut effect = Effect {
+            at: 0,
+            data: 0..0,
+            inner: told(NOTHING, 0, 0, 0),
+            inner_reply: vec![],
+            outer: told(NOTHING, 0, 0, 0),
+            outer_reply: vec![],
+        };
+        self.hid.last = time;
+        self.transport(time, disabled, packet, message, &mut effect);
+        // 8
+        effect.outer = effect.inner;
+        effect.outer_reply = effect.inner_reply.clone();
+        if effect.inner.kind != NOTHING {
+            if !(self.is("wink-ends-on-taken") && effect.inner.cmd == 63) {
+                self.wink = 0;
+            }
+            let Outcome { cid, cmd, len, .. } = effect.inner;
+            let mut error = |number| {
+                effect.outer = told(REPLY, cid, 63, 1);
+                effect.outer_reply = vec![number];
+            };
+            match (effect.inner.kind, cmd) {
+                (MESSAGE, 8) if len > 0 => error(3),
+                (MESSAGE, 8) => {
+                    effect.outer = told(REPLY, cid, 8, 0);
+                    self.wink = time
+                        + match self.fault {
+                            "wink-4999" => 4999,
+                            "wink-5001" => 5001,
+                            _ => 5000,
+                        };
+                }
+                (MESSAGE, 3) if self.hid.u2f == 0 => error(1),
+                _ => (),
+            }
+        }
+        effect
+    }
+
+    fn transport(
+        &mut self,
+        time: u64,
+        disabled: bool,
+        packet: &[u8; 64],
+        message: &[u8],
+        effect: &mut Effect,
+    ) {
+        let cid = u32::from_be_bytes(packet[..4].try_into().unwrap());
+        let first = packet[4] >= 128;
+        let cmd = packet[4] & 127;
+        let len = u16::from_be_bytes([packet[5], packet[6]]) as u32;
+        let allocated = |hid: &CtapHid| 1 <= cid && cid <= hid.allocated;
+        let mut error = |number: u8| {
+            effect.inner = told(REPLY, cid, 63, 1);
+            effect.inner_reply = vec![number];
+        };
+
+        // 1
+        let valid = match cid {
+            BROADCAST => first && cmd == 6,
+            _ => allocated(&self.hid),
+        };
+        if !valid {
+            if first {
+                error(11);
+            }
+            return;
+        }
+        // 2
+        let locked = time < self.hid.lock
+            && self.hid.locked != cid
+            && !(self.is("init-through-lock") && cid == BROADCAST);
+        if disabled || locked {
+            return error(6);
+        }
+        // 3
+        let life = match self.fault {
+            "timer-99" => 99,
+            "timer-101" => 101,
+            _ => 100,
+        };
+        let running = self.hid.assembler;
+        if running.len > 0 && running.deadline <= time {
+            self.hid.assembler = MessageAssembler::default();
+            if running.cid == cid && (!first || self.is("timeout-on-first")) {
+                return error(5);
+            }
+        }
+        // 4 and 5
+        let assembler = &mut self.hid.assembler;
+        if assembler.len > 0 && assembler.cid != cid {
+            if self.fault == "other-channel-is-life" {
+                assembler.deadline = time + life;
+            }
+            return error(6);
+        }
+        if first {
+            if assembler.len > 0 {
+                *assembler = MessageAssembler::default();
+                if cmd == 17 && self.fault == "cancel-in-message" {
+                    return;
+                }
+                if cmd != 6 {
+                    return error(4);
+                }
+            }
+            let over = match self.fault {
+                "length-over" => len > self.hid.max + 1,
+                "length-under" => len > 0 && len >= self.hid.max,
+                _ => len > self.hid.max,
+            };
+            if over {
+                return error(3);
+            }
+            *assembler = MessageAssembler {
+                deadline: time + life,
+                cid,
+                len,
+                taken: 0,
+                cmd: cmd as u16,
+                seq: (self.fault == "first-number-1") as u16,
+            };
+        } else {
+            if assembler.len == 0 {
+                return;
+            }
+            if packet[4] as u16 != assembler.seq {
+                *assembler = MessageAssembler::default();
+                return error(4);
+            }
+            assembler.deadline = time + life;
+            assembler.seq += 1;
+        }
+        // 6
+        let from = if first { 7 } else { 5 };
+        let room = (64 - from) as u32;
+        let left = assembler.len - assembler.taken;
+        let taken = room.min(left);
+        effect.at = assembler.taken as usize;
+        effect.data = from..from
+            + match self.fault {
+                "spare-bytes-written" => room as usize,
+                "last-byte-not-written" if left > room => taken as usize - 1,
+                _ => taken as usize,
+            };
+        assembler.taken += taken;
+        if room < left || (left == 57 && first && self.fault == "57-begins-a-transaction") {
+            return;
+        }
+        let len = assembler.len as usize;
+        let cmd = assembler.cmd as u8;
+        self.hid.assembler = MessageAssembler::default();
+        // the message: what was there, and now this packet's bytes
+        let byte = |i: usize| match i.checked_sub(effect.at) {
+            Some(k) => packet[from + k],
+            None => message[i],
+        };
+
+        // 7
+        match cmd {
+            6 if len != 8 => error(3),
+            6 => {
+                let mut new = cid;
+                if cid == BROADCAST {
+                    let restarts = self.hid.allocated == 0xffff_fffe;
+                    new = if restarts { 1 } else { self.hid.allocated + 1 };
+                    self.hid.allocated = new;
+                    if restarts && self.fault == "channel-2-kept" {
+                        self.hid.allocated = 2;
+                    }
+                }
+                let mut reply: Vec<u8> = (0..8).map(byte).collect();
+                reply.extend(new.to_be_bytes());
+                reply.extend([2, 1, 0, 0, if self.hid.u2f == 0 { 13 } else { 5 }]);
+                effect.inner = told(REPLY, cid, 6, 17);
+                effect.inner_reply = reply;
+            }
+            4 if len != 1 => error(3),
+            4 => {
+                let mut seconds = byte(0);
+                if seconds == 11 && self.fault == "lock-11-as-10" {
+                    seconds = 10;
+                }
+                if seconds > 10 {
+                    return error(2);
+                }
+                let span = 1000 * seconds as u64;
+                (self.hid.locked, self.hid.lock) = match (seconds, self.fault) {
+                    (0, _) => (0, 0),
+                    (_, "lock-999") => (cid, time + span - 1),
+                    (_, "lock-1001") => (cid, time + span + 1),
+                    _ => (cid, time + span),
+                };
+                effect.inner = told(REPLY, cid, 4, 0);
+            }
+            17 => (),
+            1 => effect.inner = told(ECHO, cid, 1, len),
+            3 | 8 | 16 => effect.inner = told(MESSAGE, cid, cmd, len),
+            _ => error(1),
+        }
+    }
+}

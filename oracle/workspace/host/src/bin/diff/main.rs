@@ -1,0 +1,259 @@
+//! Runs OpenSK's transport and ours on the same packets and compares them after every step.
+//!   diff [--seed N] [--steps N] [--depth N] [--fault NAME] [--answers]
+//! --depth N runs all sequences of up to N letters; --steps N runs N random steps. --fault plants a
+//! fault in a stand-in for our library; --answers leaves states and buffers uncompared. Exits with 1
+//! where the two differ, after the shortest run that it can find.
+mod definition;
+mod ours;
+mod pair;
+mod traffic;
+
+use definition::FAULTS;
+use ours::{ECHO, MESSAGE, NOTHING};
+use pair::{Pair, Setup, Step, U2F};
+use std::process::exit;
+use std::sync::Arc;
+use traffic::{Hosts, Random};
+
+struct Driver {
+    seed: u64,
+    fault: &'static str,
+    answers_only: bool,
+    answers: Arc<Vec<u8>>,
+    done: u64,
+    /// Answers of the device: nothing, messages, echoes, other replies, and errors by number.
+    kinds: [u64; 4],
+    errors: [u64; 12],
+}
+
+fn main() {
+    let mut seed = 1;
+    let mut steps = 0;
+    let mut depth = 0;
+    let mut fault = "";
+    let mut answers_only = false;
+    let mut args = std::env::args().skip(1);
+    while let Some(arg) = args.next() {
+        let mut number = || args.next().and_then(|n| n.parse().ok());
+        match arg.as_str() {
+            "--seed" => seed = number().unwrap_or_else(|| usage()),
+            "--steps" => steps = number().unwrap_or_else(|| usage()),
+            "--depth" => depth = number().unwrap_or_else(|| usage()) as u32,
+            "--answers" => answers_only = true,
+            "--fault" => {
+                let name = args.next().unwrap_or_else(|| usage());
+                let found = FAULTS.iter().chain(&["none"]).find(|f| **f == name);
+                fault = found.unwrap_or_else(|| usage());
+            }
+            _ => usage(),
+        }
+    }
+    let mut driver = Driver {
+        seed,
+        fault,
+        answers_only,
+        answers: Arc::new((0..20_000).map(|i| (i % 251) as u8).collect()),
+        done: 0,
+        kinds: [0; 4],
+        errors: [0; 12],
+    };
+    let messages = driver.senders_and_readers();
+    let sequences = driver.exhaustive(depth);
+    let exhaustive = driver.done;
+    driver.random(steps);
+    let [nothing, handed, echoes, replies] = driver.kinds;
+    println!(
+        "{} U2F, seed {seed}: {messages} messages split, {sequences} sequences ({exhaustive} steps), \
+         {steps} random steps: no difference",
+        if U2F { "with" } else { "without" }
+    );
+    println!(
+        "  answers: {nothing} nothing, {handed} handed over, {echoes} echoes, {replies} other replies; \
+         errors by number {:?}",
+        driver.errors
+    );
+}
+
+fn usage() -> ! {
+    eprintln!("usage: diff [--seed N] [--steps N] [--depth N] [--fault NAME] [--answers]");
+    eprintln!("faults: none {}", FAULTS.join(" "));
+    exit(2)
+}
+
+impl Driver {
+    /// Every length from 0 past the largest, and every value of a packet's fifth byte.
+    fn senders_and_readers(&self) -> usize {
+        let long = 7700;
+        let commands = [1, 3, 4, 6, 8, 16, 17, 59, 63];
+        for len in (0..=long).chain([8191, 8192, 20_000]) {
+            let cmd = commands[len % 9];
+            let cid = (len as u32).wrapping_mul(0x0123_4567);
+            let sent = pair::send(cid, cmd, &self.answers[..len], self.fault);
+            self.alone(format!("a message of {len} bytes"), sent);
+        }
+        let mut random = Random::new(self.seed);
+        for fifth in 0..=255 {
+            for _ in 0..64 {
+                let packet = std::array::from_fn(|i| match i {
+                    4 => fifth,
+                    _ => random.next() as u8,
+                });
+                self.alone(hex(&packet), pair::read(&packet, self.fault));
+            }
+        }
+        long + 4
+    }
+
+    fn alone(&self, input: String, result: Result<(), String>) {
+        if let Err(what) = result {
+            println!("DIFFERENCE before any step, {input}: {what}");
+            exit(1);
+        }
+    }
+
+    fn pair(&self, setup: &Setup) -> Pair {
+        Pair::new(setup, self.fault, self.answers_only, &self.answers)
+    }
+
+    fn exhaustive(&mut self, depth: u32) -> u64 {
+        let letters = traffic::letters();
+        let n = letters.len() as u64;
+        let mut sequences = 0;
+        let restarts = depth.saturating_sub(1);
+        for (allocated, depth) in [(2, depth), (0xffff_fffe, restarts), (0xffff_fffd, restarts)] {
+            let setup = Setup {
+                max: 117,
+                allocated,
+                slack: 3,
+                fill: 0xee,
+            };
+            // the longest alone: each shorter one is the front of one of them
+            if depth == 0 {
+                continue;
+            }
+            for which in 0..n.pow(depth) {
+                let mut pair = self.pair(&setup);
+                let mut steps = vec![];
+                let mut time = 0;
+                let mut rest = which;
+                for _ in 0..depth {
+                    let (gap, disabled, packet) = letters[(rest % n) as usize];
+                    rest /= n;
+                    time += gap;
+                    steps.push(Step {
+                        time,
+                        disabled,
+                        packet,
+                        answer: 3,
+                    });
+                    self.step(&mut pair, &setup, &steps);
+                }
+            }
+            sequences += n.pow(depth);
+        }
+        sequences
+    }
+
+    fn random(&mut self, steps: u64) {
+        let mut random = Random::new(self.seed);
+        let end = self.done + steps;
+        while self.done < end {
+            let setup = traffic::setup(&mut random);
+            let mut time = traffic::start(&mut random);
+            let mut hosts = Hosts::new(&mut random);
+            let wild = random.one_in(2);
+            let mut pair = self.pair(&setup);
+            let mut run = vec![];
+            let len = if wild { 200 } else { 400 };
+            while run.len() < len && self.done < end {
+                run.push(if wild {
+                    traffic::wild(&mut random, pair.state(), &mut time)
+                } else {
+                    hosts.step(&mut random, pair.state(), &mut time)
+                });
+                self.step(&mut pair, &setup, &run);
+            }
+            if !wild {
+                for _ in 0..2 {
+                    let copy = traffic::damaged(&mut random, &run);
+                    let mut pair = self.pair(&setup);
+                    for at in 0..copy.len() {
+                        if self.done == end {
+                            return;
+                        }
+                        self.step(&mut pair, &setup, &copy[..=at]);
+                    }
+                }
+            }
+        }
+    }
+
+    /// The last step of a run, of which the pair has the others behind it.
+    fn step(&mut self, pair: &mut Pair, setup: &Setup, run: &[Step]) {
+        self.done += 1;
+        match pair.step(run.last().unwrap()) {
+            Err(what) => self.found(setup, run, what),
+            Ok(outcome) => match outcome.kind {
+                NOTHING => self.kinds[0] += 1,
+                MESSAGE => self.kinds[1] += 1,
+                ECHO => self.kinds[2] += 1,
+                _ => self.kinds[3] += 1,
+            },
+        }
+        if let Some(error) = pair.error() {
+            self.errors[error as usize] += 1;
+        }
+    }
+
+    /// What differs first in a run, and after how many steps.
+    fn difference(&self, setup: &Setup, run: &[Step]) -> Option<(usize, String)> {
+        let mut pair = self.pair(setup);
+        run.iter()
+            .enumerate()
+            .find_map(|(at, step)| pair.step(step).err().map(|what| (at + 1, what)))
+    }
+
+    fn found(&self, setup: &Setup, run: &[Step], what: String) -> ! {
+        println!(
+            "DIFFERENCE at step {} of seed {}: {what}",
+            self.done, self.seed
+        );
+        let mut run = run.to_vec();
+        // ever smaller pieces out, for as long as any difference is left
+        let mut piece = run.len().div_ceil(2);
+        while piece > 0 {
+            let mut at = 0;
+            while at < run.len() {
+                let mut less = run.clone();
+                less.drain(at..(at + piece).min(run.len()));
+                match self.difference(setup, &less) {
+                    Some((len, _)) => {
+                        less.truncate(len);
+                        run = less;
+                    }
+                    None => at += piece,
+                }
+            }
+            piece /= 2;
+        }
+        let (_, what) = self.difference(setup, &run).unwrap();
+        println!("the shortest run found has {} steps: {what}", run.len());
+        println!("{setup:?}, {} U2F", if U2F { "with" } else { "without" });
+        for step in run {
+            println!(
+                "{} {} {} answer {}",
+                step.time,
+                step.disabled as u8,
+                hex(&step.packet),
+                step.answer
+            );
+        }
+        exit(1)
+    }
+}
+
+/// Without the zero bytes at the end, as the bench program reads it.
+fn hex(packet: &[u8; 64]) -> String {
+    let len = packet.iter().rposition(|b| *b != 0).map_or(1, |at| at + 1);
+    packet[..len].iter().map(|b| format!("{b:02x}")).collect()
+}

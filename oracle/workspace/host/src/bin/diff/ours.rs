@@ -1,0 +1,225 @@
+//! Our library: the archive's entries and the states they work on.
+use std::ptr::from_mut;
+
+#[repr(C)]
+#[derive(Clone, Copy, Debug, Default, PartialEq, Eq)]
+pub struct MessageAssembler {
+    pub deadline: u64,
+    pub cid: u32,
+    pub len: u32,
+    pub taken: u32,
+    pub cmd: u16,
+    pub seq: u16,
+}
+
+#[repr(C)]
+#[derive(Clone, Copy, Debug, Default, PartialEq, Eq)]
+pub struct CtapHid {
+    pub assembler: MessageAssembler,
+    pub lock: u64,
+    pub last: u64,
+    pub allocated: u32,
+    pub locked: u32,
+    pub max: u32,
+    pub u2f: u32,
+}
+
+#[repr(C)]
+#[derive(Clone, Copy, Debug, Default, PartialEq, Eq)]
+pub struct MainHid {
+    pub hid: CtapHid,
+    pub wink: u64,
+}
+
+#[repr(C)]
+#[derive(Clone, Copy, Debug, Default, PartialEq, Eq)]
+pub struct Outcome {
+    pub len: usize,
+    pub cid: u32,
+    pub kind: u8,
+    pub cmd: u8,
+    pub refusal: u8,
+    pub spare: u8,
+}
+
+pub const REFUSED: u8 = 0;
+pub const NOTHING: u8 = 1;
+pub const MESSAGE: u8 = 2;
+pub const ECHO: u8 = 3;
+pub const REPLY: u8 = 4;
+pub const FIRST: u8 = 5;
+pub const CONTINUATION: u8 = 6;
+pub const COUNT: u8 = 7;
+
+// the sizes that the archive was compiled for
+const _: () = assert!(size_of::<MessageAssembler>() == 24);
+const _: () = assert!(size_of::<CtapHid>() == 56);
+const _: () = assert!(size_of::<MainHid>() == 64);
+const _: () = assert!(size_of::<Outcome>() == 16);
+
+mod raw {
+    use super::{CtapHid, MainHid, Outcome};
+
+    #[link(name = "snjofrask", kind = "static")]
+    unsafe extern "C" {
+        pub fn snjofrask_transport_new(hid: *mut CtapHid, max: usize, u2f: u8) -> u8;
+        pub fn snjofrask_transport_step(
+            hid: *mut CtapHid,
+            time: u64,
+            disabled: u8,
+            packet: *const u8,
+            packet_len: usize,
+            message: *mut u8,
+            message_len: usize,
+            reply: *mut u8,
+            reply_len: usize,
+        ) -> Outcome;
+        pub fn snjofrask_is_locked(hid: *const CtapHid, time: u64) -> u8;
+        pub fn snjofrask_device_new(hid: *mut MainHid, max: usize, u2f: u8) -> u8;
+        pub fn snjofrask_device_step(
+            hid: *mut MainHid,
+            time: u64,
+            disabled: u8,
+            packet: *const u8,
+            packet_len: usize,
+            message: *mut u8,
+            message_len: usize,
+            reply: *mut u8,
+            reply_len: usize,
+        ) -> Outcome;
+        pub fn snjofrask_is_winking(hid: *const MainHid, time: u64) -> u8;
+        pub fn snjofrask_read_packet(packet: *const u8, packet_len: usize) -> Outcome;
+        pub fn snjofrask_packet_count(len: usize) -> Outcome;
+        pub fn snjofrask_write_packet(
+            cid: u32,
+            cmd: u8,
+            payload: *const u8,
+            payload_len: usize,
+            index: usize,
+            packet: *mut u8,
+            packet_len: usize,
+        ) -> u8;
+        pub fn snjofrask_split_message(
+            cid: u32,
+            cmd: u8,
+            payload: *const u8,
+            payload_len: usize,
+            internal_error: u8,
+            index: usize,
+            packet: *mut u8,
+            packet_len: usize,
+        ) -> u8;
+    }
+}
+
+// Rust's borrow rules give what each entry needs: valid parts, apart from each other.
+
+pub fn transport_new(max: usize, u2f: bool) -> (CtapHid, u8) {
+    let mut hid = CtapHid::default();
+    let refusal = unsafe { raw::snjofrask_transport_new(from_mut(&mut hid), max, u2f as u8) };
+    (hid, refusal)
+}
+
+pub fn device_new(max: usize, u2f: bool) -> (MainHid, u8) {
+    let mut hid = MainHid::default();
+    let refusal = unsafe { raw::snjofrask_device_new(from_mut(&mut hid), max, u2f as u8) };
+    (hid, refusal)
+}
+
+pub fn transport_step(
+    hid: &mut CtapHid,
+    time: u64,
+    disabled: bool,
+    packet: &[u8],
+    message: &mut [u8],
+    reply: &mut [u8],
+) -> Outcome {
+    unsafe {
+        raw::snjofrask_transport_step(
+            hid,
+            time,
+            disabled as u8,
+            packet.as_ptr(),
+            packet.len(),
+            message.as_mut_ptr(),
+            message.len(),
+            reply.as_mut_ptr(),
+            reply.len(),
+        )
+    }
+}
+
+pub fn device_step(
+    hid: &mut MainHid,
+    time: u64,
+    disabled: bool,
+    packet: &[u8],
+    message: &mut [u8],
+    reply: &mut [u8],
+) -> Outcome {
+    unsafe {
+        raw::snjofrask_device_step(
+            hid,
+            time,
+            disabled as u8,
+            packet.as_ptr(),
+            packet.len(),
+            message.as_mut_ptr(),
+            message.len(),
+            reply.as_mut_ptr(),
+            reply.len(),
+        )
+    }
+}
+
+pub fn is_locked(hid: &CtapHid, time: u64) -> u8 {
+    unsafe { raw::snjofrask_is_locked(hid, time) }
+}
+
+pub fn is_winking(hid: &MainHid, time: u64) -> u8 {
+    unsafe { raw::snjofrask_is_winking(hid, time) }
+}
+
+pub fn read_packet(packet: &[u8]) -> Outcome {
+    unsafe { raw::snjofrask_read_packet(packet.as_ptr(), packet.len()) }
+}
+
+pub fn packet_count(len: usize) -> Outcome {
+    unsafe { raw::snjofrask_packet_count(len) }
+}
+
+pub fn write_packet(cid: u32, cmd: u8, payload: &[u8], index: usize, packet: &mut [u8]) -> u8 {
+    unsafe {
+        raw::snjofrask_write_packet(
+            cid,
+            cmd,
+            payload.as_ptr(),
+            payload.len(),
+            index,
+            packet.as_mut_ptr(),
+            packet.len(),
+        )
+    }
+}
+
+pub fn split_message(
+    cid: u32,
+    cmd: u8,
+    payload: &[u8],
+    internal_error: u8,
+    index: usize,
+    packet: &mut [u8],
+) -> u8 {
+    unsafe {
+        raw::snjofrask_split_message(
+            cid,
+            cmd,
+            payload.as_ptr(),
+            payload.len(),
+            internal_error,
+            index,
+            packet.as_mut_ptr(),
+            packet.len(),
+        )
+    }
+}

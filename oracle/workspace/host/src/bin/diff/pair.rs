@@ -1,0 +1,530 @@
+//! OpenSK and ours, side by side: each step goes through both, and all that can be seen is compared.
+use crate::definition::{Definition, Effect};
+use crate::ours::{self, ECHO, MESSAGE, NOTHING, Outcome, REPLY};
+use host::{HostEnv, Timer};
+use opensk::ctap::CtapState;
+use opensk::ctap::hid::{
+    CtapHid, CtapHidCommand, HidPacket, HidPacketIterator, Message, ProcessedPacket,
+};
+use opensk::ctap::main_hid::MainHid;
+
+/// OpenSK's CTAP2_ERR_VENDOR_INTERNAL_ERROR; a setting on our side.
+pub const INTERNAL_ERROR: u8 = 0xf2;
+
+pub const LAST_TIME: u64 = (1 << 48) - 1;
+
+/// Whether OpenSK's outer layer is built with U2F.
+pub const U2F: bool = cfg!(feature = "ctap1");
+
+#[derive(Clone, Debug)]
+pub struct Setup {
+    pub max: usize,
+    pub allocated: u32,
+    /// Bytes that the message buffer has beyond the maximum, and the reply buffer beyond 17.
+    pub slack: usize,
+    /// What the buffers hold at first.
+    pub fill: u8,
+}
+
+#[derive(Clone)]
+pub struct Step {
+    pub time: u64,
+    pub disabled: bool,
+    pub packet: HidPacket,
+    /// The length of what the authenticator answers, should the step hand something over.
+    pub answer: usize,
+}
+
+/// A buffer with bytes around it that nobody may write.
+struct Lent {
+    bytes: Vec<u8>,
+    len: usize,
+}
+
+const FENCE: usize = 64;
+
+impl Lent {
+    fn new(len: usize, fill: u8) -> Self {
+        let mut bytes = vec![0xa5; len + 2 * FENCE];
+        bytes[FENCE..FENCE + len].fill(fill);
+        Lent { bytes, len }
+    }
+
+    fn part(&mut self) -> &mut [u8] {
+        &mut self.bytes[FENCE..FENCE + self.len]
+    }
+
+    fn front(&self, len: usize) -> &[u8] {
+        &self.bytes[FENCE..FENCE + len.min(self.len)]
+    }
+
+    /// As a definition would: what does not fit is left out.
+    fn write(&mut self, at: usize, data: &[u8]) {
+        let end = (at + data.len()).min(self.len);
+        if at < end {
+            self.part()[at..end].copy_from_slice(&data[..end - at]);
+        }
+    }
+}
+
+/// Our two machines, the transport alone and the device, each with its own buffers.
+struct Ours {
+    inner: ours::CtapHid,
+    outer: ours::MainHid,
+    inner_message: Lent,
+    inner_reply: Lent,
+    outer_message: Lent,
+    outer_reply: Lent,
+    /// Takes the library's place where a fault is planted.
+    faulty: Option<Definition>,
+}
+
+impl Ours {
+    fn step(&mut self, step: &Step) -> (Outcome, Outcome) {
+        let Step {
+            time,
+            disabled,
+            packet,
+            ..
+        } = step;
+        if let Some(definition) = &mut self.faulty {
+            let message = self.inner_message.front(usize::MAX);
+            let effect = definition.step(*time, *disabled, packet, message);
+            self.inner = definition.hid;
+            self.outer.hid = definition.hid;
+            self.outer.wink = definition.wink;
+            let data = &packet[effect.data.clone()];
+            self.inner_message.write(effect.at, data);
+            self.outer_message.write(effect.at, data);
+            self.inner_reply.write(0, &effect.inner_reply);
+            self.outer_reply.write(0, &effect.outer_reply);
+            if definition.is("reply-buffer-cleared") && effect.outer_reply.len() == 1 {
+                self.outer_reply.write(1, &[0; 16]);
+            }
+            return (effect.inner, effect.outer);
+        }
+        let inner = ours::transport_step(
+            &mut self.inner,
+            *time,
+            *disabled,
+            packet,
+            self.inner_message.part(),
+            self.inner_reply.part(),
+        );
+        let outer = ours::device_step(
+            &mut self.outer,
+            *time,
+            *disabled,
+            packet,
+            self.outer_message.part(),
+            self.outer_reply.part(),
+        );
+        (inner, outer)
+    }
+
+    fn is_locked(&self, time: u64) -> u8 {
+        match self.faulty {
+            Some(_) => (time < self.inner.lock) as u8,
+            None => ours::is_locked(&self.inner, time),
+        }
+    }
+
+    fn is_locked_outside(&self, time: u64) -> u8 {
+        match self.faulty {
+            Some(_) => (time < self.outer.hid.lock) as u8,
+            None => ours::is_locked(&self.outer.hid, time),
+        }
+    }
+
+    fn is_winking(&self, time: u64) -> u8 {
+        match self.faulty {
+            Some(_) => (time < self.outer.wink) as u8,
+            None => ours::is_winking(&self.outer, time),
+        }
+    }
+}
+
+pub struct Pair {
+    env: HostEnv,
+    authenticator: CtapState<HostEnv>,
+    inner: CtapHid<HostEnv>,
+    outer: MainHid<HostEnv>,
+    ours: Ours,
+    definition: Definition,
+    message: Lent,
+    inner_reply: Lent,
+    outer_reply: Lent,
+    fault: &'static str,
+    /// The answers alone are compared, and neither states nor buffers.
+    answers_only: bool,
+    /// What the authenticator answers: the front of these bytes.
+    answers: std::sync::Arc<Vec<u8>>,
+    last: Outcome,
+}
+
+macro_rules! same {
+    ($what:expr, $wanted:expr, $ours:expr) => {
+        match (&$wanted, &$ours) {
+            (wanted, ours) => {
+                if wanted != ours {
+                    let what = $what;
+                    return Err(format!(
+                        "{what}: wanted {wanted:02x?}, ours has {ours:02x?}"
+                    ));
+                }
+            }
+        }
+    };
+}
+
+impl Pair {
+    pub fn new(
+        setup: &Setup,
+        fault: &'static str,
+        answers_only: bool,
+        answers: &std::sync::Arc<Vec<u8>>,
+    ) -> Self {
+        let mut env = HostEnv::new(setup.max);
+        let authenticator = CtapState::new(&mut env);
+        let mut inner = CtapHid::new(if U2F { 5 } else { 13 });
+        let mut outer = MainHid::default();
+        inner.oracle_set_allocated(setup.allocated);
+        outer.oracle_hid().oracle_set_allocated(setup.allocated);
+        let (mut our_inner, refusal) = ours::transport_new(setup.max, U2F);
+        assert_eq!(refusal, 0);
+        let (mut our_outer, refusal) = ours::device_new(setup.max, U2F);
+        assert_eq!(refusal, 0);
+        our_inner.allocated = setup.allocated;
+        our_outer.hid.allocated = setup.allocated;
+        let message = || Lent::new(setup.max + setup.slack, setup.fill);
+        let reply = || Lent::new(17 + setup.slack, setup.fill);
+        let definition = |fault| Definition::new(setup.max, U2F, setup.allocated, fault);
+        Pair {
+            env,
+            authenticator,
+            inner,
+            outer,
+            ours: Ours {
+                inner: our_inner,
+                outer: our_outer,
+                inner_message: message(),
+                inner_reply: reply(),
+                outer_message: message(),
+                outer_reply: reply(),
+                faulty: (!fault.is_empty()).then(|| definition(fault)),
+            },
+            definition: definition(""),
+            message: message(),
+            inner_reply: reply(),
+            outer_reply: reply(),
+            fault,
+            answers_only,
+            answers: answers.clone(),
+            last: Outcome::default(),
+        }
+    }
+
+    /// The definition's state, for whoever makes up the next packet.
+    pub fn state(&self) -> &ours::CtapHid {
+        &self.definition.hid
+    }
+
+    /// The number of an error that the device's last answer told.
+    pub fn error(&self) -> Option<u8> {
+        let Outcome { kind, cmd, .. } = self.last;
+        (kind == REPLY && cmd == 63).then(|| self.ours.outer_reply.front(1)[0])
+    }
+
+    pub fn step(&mut self, step: &Step) -> Result<Outcome, String> {
+        let Step { time, packet, .. } = step;
+        read(packet, self.fault)?;
+
+        // OpenSK
+        self.env.now.0 = *time;
+        self.authenticator.reply = self.answers[..step.answer].to_vec();
+        let inner = self
+            .inner
+            .parse_packet(&mut self.env, packet, step.disabled);
+        let outer = self.outer.process_hid_packet(
+            &mut self.env,
+            packet,
+            step.disabled,
+            &mut self.authenticator,
+        );
+        let handed = std::mem::take(&mut self.authenticator.handed);
+
+        // ours
+        let (our_inner, our_outer) = self.ours.step(step);
+        self.last = our_outer;
+
+        // the transport's answer
+        let said = match our_inner.kind {
+            NOTHING => None,
+            MESSAGE | ECHO => Some(self.ours.inner_message.front(our_inner.len)),
+            REPLY => Some(self.ours.inner_reply.front(our_inner.len)),
+            _ => return Err(format!("transport: ours answers {our_inner:?}")),
+        }
+        .map(|payload| (our_inner.cid, our_inner.cmd, payload));
+        let wanted = inner
+            .as_ref()
+            .map(|m| (u32::from_be_bytes(m.cid), m.cmd as u8, &m.payload[..]));
+        same!("the transport's answer", wanted, said);
+        let handed_out = our_inner.kind == MESSAGE;
+        let is_for_above = wanted.is_some_and(|m| [3, 8, 16].contains(&m.1));
+        same!("handed out by the transport", is_for_above, handed_out);
+
+        // the device's answer
+        let mut payload = match our_outer.kind {
+            NOTHING => None,
+            MESSAGE | ECHO => Some(self.ours.outer_message.front(our_outer.len)),
+            REPLY => Some(self.ours.outer_reply.front(our_outer.len)),
+            _ => return Err(format!("device: ours answers {our_outer:?}")),
+        }
+        .map(<[u8]>::to_vec);
+        let mut our_handed = vec![];
+        if our_outer.kind == MESSAGE {
+            // the caller's part: it asks the authenticator, and adds the status word to a U2F reply
+            let asked = payload.replace(self.authenticator.reply.clone()).unwrap();
+            our_handed.push((CtapHidCommand::from(our_outer.cmd), asked));
+            if our_outer.cmd == 3 {
+                payload.as_mut().unwrap().extend([0x90, 0]);
+            }
+        }
+        same!("handed over", handed, our_handed);
+        match payload {
+            None => {
+                same!("has_data", outer.has_data(), false);
+                same!(
+                    "packets",
+                    outer.collect::<Vec<_>>(),
+                    Vec::<HidPacket>::new()
+                );
+            }
+            Some(payload) => packets(outer, our_outer.cid, our_outer.cmd, &payload, self.fault)?,
+        }
+
+        // the questions
+        let lock = self.inner.has_channel_lock(&mut self.env);
+        same!("lock", lock as u8, self.ours.is_locked(*time));
+        let lock = self.outer.has_channel_lock(&mut self.env);
+        same!(
+            "device's lock",
+            lock as u8,
+            self.ours.is_locked_outside(*time)
+        );
+        let wink = self.outer.should_wink(&mut self.env);
+        same!("wink", wink as u8, self.ours.is_winking(*time));
+
+        // the definition, for the buffers
+        let effect =
+            self.definition
+                .step(*time, step.disabled, packet, self.message.front(usize::MAX));
+        if self.answers_only {
+            return Ok(our_outer);
+        }
+        self.states(*time)?;
+        self.buffers(&effect, packet)?;
+        Ok(our_outer)
+    }
+
+    fn states(&mut self, time: u64) -> Result<(), String> {
+        let wink = self.outer.oracle_wink().0.filter(|end| time < *end);
+        let our_wink = Some(self.ours.outer.wink).filter(|end| time < *end);
+        same!("end of the wink", wink, our_wink);
+        for (name, hid, ours) in [
+            ("transport", &self.inner, &self.ours.inner),
+            ("device", self.outer.oracle_hid(), &self.ours.outer.hid),
+        ] {
+            let peek = hid.oracle_peek();
+            same!(
+                format!("{name}: count"),
+                peek.allocated_cids,
+                ours.allocated
+            );
+            same!(format!("{name}: last time"), time, ours.last);
+            same!(
+                format!("{name}: settings"),
+                (self.env.customization.max_msg_size as u32, U2F),
+                (ours.max, ours.u2f != 0)
+            );
+            let Timer(until) = peek.lock_timer;
+            let lock = peek
+                .locked_cid
+                .map(|cid| (u32::from_be_bytes(cid), until.unwrap()))
+                .filter(|(_, until)| time < *until);
+            let our_lock = Some((ours.locked, ours.lock)).filter(|(_, until)| time < *until);
+            same!(format!("{name}: lock"), lock, our_lock);
+            let transaction = peek.transaction.as_ref().map(|x| {
+                let taken = x.payload.len();
+                (
+                    u32::from_be_bytes(x.cid),
+                    x.cmd as u16,
+                    x.seq as u16,
+                    taken as u32,
+                    (taken + x.remaining_payload_len) as u32,
+                    x.timer.0.unwrap(),
+                )
+            });
+            let a = &ours.assembler;
+            let our_transaction =
+                (a.len > 0).then_some((a.cid, a.cmd, a.seq, a.taken, a.len, a.deadline));
+            same!(format!("{name}: transaction"), transaction, our_transaction);
+            if let Some(x) = peek.transaction {
+                let message = match name {
+                    "transport" => &self.ours.inner_message,
+                    _ => &self.ours.outer_message,
+                };
+                same!(
+                    format!("{name}: bytes taken"),
+                    &x.payload[..],
+                    message.front(x.payload.len())
+                );
+            }
+        }
+        Ok(())
+    }
+
+    fn buffers(&mut self, effect: &Effect, packet: &HidPacket) -> Result<(), String> {
+        self.message.write(effect.at, &packet[effect.data.clone()]);
+        self.inner_reply.write(0, &effect.inner_reply);
+        self.outer_reply.write(0, &effect.outer_reply);
+        for (name, wanted, ours) in [
+            (
+                "transport: message",
+                &self.message,
+                &self.ours.inner_message,
+            ),
+            ("device: message", &self.message, &self.ours.outer_message),
+            (
+                "transport: reply",
+                &self.inner_reply,
+                &self.ours.inner_reply,
+            ),
+            ("device: reply", &self.outer_reply, &self.ours.outer_reply),
+        ] {
+            if wanted.bytes != ours.bytes {
+                let at = wanted
+                    .bytes
+                    .iter()
+                    .zip(&ours.bytes)
+                    .position(|(a, b)| a != b);
+                return Err(format!(
+                    "{name} buffer: byte {} is not what the definition says",
+                    at.unwrap() as isize - FENCE as isize
+                ));
+            }
+        }
+        Ok(())
+    }
+}
+
+/// Both readings of one packet.
+pub fn read(packet: &HidPacket, fault: &str) -> Result<(), String> {
+    let (cid, processed) = CtapHid::<HostEnv>::process_single_packet(packet);
+    let (kind, cmd, len, data) = match processed {
+        ProcessedPacket::InitPacket { cmd, len, data } => (ours::FIRST, cmd, len, &data[..]),
+        ProcessedPacket::ContinuationPacket { seq, data } => {
+            (ours::CONTINUATION, seq, 0, &data[..])
+        }
+    };
+    let mut outcome = ours::read_packet(packet);
+    if fault == "reader-length-swapped" {
+        outcome.len = (outcome.len as u16).swap_bytes() as usize;
+    }
+    let cid = u32::from_be_bytes(cid);
+    let wanted = (kind, cid, cmd, len, 0, 0);
+    let Outcome { refusal, spare, .. } = outcome;
+    let said = (
+        outcome.kind,
+        outcome.cid,
+        outcome.cmd,
+        outcome.len,
+        refusal,
+        spare,
+    );
+    same!("reading", wanted, said);
+    // where the kind says that the data begins
+    let part = &packet[if kind == ours::FIRST { 7 } else { 5 }..];
+    same!("the packet's data", data, part);
+    Ok(())
+}
+
+/// OpenSK's packets against ours by index, has_data against our count, and the end.
+pub fn packets(
+    mut opensk: HidPacketIterator,
+    cid: u32,
+    cmd: u8,
+    payload: &[u8],
+    fault: &str,
+) -> Result<(), String> {
+    let len = if payload.len() > 7609 {
+        1
+    } else {
+        payload.len()
+    };
+    let count = ours::packet_count(len);
+    same!("kind of a count", ours::COUNT, count.kind);
+    for index in 0.. {
+        let mut packet = [0x5a; 64];
+        let internal_error = match fault {
+            "split-long-at-7610" if payload.len() == 7610 => 0,
+            _ => INTERNAL_ERROR,
+        };
+        let number = ours::split_message(cid, cmd, payload, internal_error, index, &mut packet);
+        if fault == "sender-number-1" && index > 0 && number == 0 {
+            packet[4] += 1;
+        }
+        if fault == "sender-stale-bytes" && index + 1 == count.len && len == 58 {
+            packet[63] = 0x5a;
+        }
+        same!("has_data", opensk.has_data(), index < count.len);
+        match opensk.next() {
+            Some(wanted) => {
+                same!("writing", 0, number);
+                same!(format!("packet {index}"), wanted, packet);
+            }
+            None => {
+                same!("writing past the last", 6, number);
+                same!("a packet not written", [0x5a; 64], packet);
+                return Ok(());
+            }
+        }
+    }
+    unreachable!()
+}
+
+/// A message of any length through both senders.
+pub fn send(cid: u32, cmd: u8, payload: &[u8], fault: &str) -> Result<(), String> {
+    let message = Message {
+        cid: cid.to_be_bytes(),
+        cmd: CtapHidCommand::from(cmd),
+        payload: payload.to_vec(),
+    };
+    let split = CtapHid::<HostEnv>::split_message(message.clone());
+    packets(split, cid, cmd, payload, fault)?;
+    let count = ours::packet_count(payload.len());
+    match HidPacketIterator::new(message) {
+        None => {
+            same!("count", (ours::REFUSED, 7), (count.kind, count.refusal));
+            let mut packet = [0x5a; 64];
+            let number = ours::write_packet(cid, cmd, payload, 0, &mut packet);
+            same!("writing one that is too long", 7, number);
+            same!("a packet not written", [0x5a; 64], packet);
+        }
+        Some(all) => {
+            let mut written = 0;
+            for (index, wanted) in all.enumerate() {
+                let mut packet = [0x5a; 64];
+                same!(
+                    "writing",
+                    0,
+                    ours::write_packet(cid, cmd, payload, index, &mut packet)
+                );
+                same!("packet by index", wanted, packet);
+                written += 1;
+            }
+            same!("count", (ours::COUNT, written), (count.kind, count.len));
+        }
+    }
+    Ok(())
+}

@@ -1,0 +1,381 @@
+//! Made-up traffic. All of it comes from a seed.
+use crate::definition::BROADCAST;
+use crate::ours::CtapHid;
+use crate::pair::{LAST_TIME, Setup, Step};
+use opensk::ctap::hid::HidPacket;
+use std::collections::VecDeque;
+
+pub struct Random(u64);
+
+impl Random {
+    pub fn new(seed: u64) -> Self {
+        // never 0
+        Random(seed.wrapping_mul(0x9e37_79b9_7f4a_7c15) | 1 << 40)
+    }
+
+    pub fn next(&mut self) -> u64 {
+        self.0 ^= self.0 << 13;
+        self.0 ^= self.0 >> 7;
+        self.0 ^= self.0 << 17;
+        self.0.wrapping_mul(0x2545_f491_4f6c_dd1d) >> 16
+    }
+
+    pub fn below(&mut self, n: usize) -> usize {
+        (self.next() % n as u64) as usize
+    }
+
+    pub fn one_in(&mut self, n: usize) -> bool {
+        self.below(n) == 0
+    }
+
+    pub fn of<T: Copy>(&mut self, all: &[T]) -> T {
+        all[self.below(all.len())]
+    }
+
+    fn fill(&mut self, bytes: &mut [u8]) {
+        for part in bytes.chunks_mut(6) {
+            part.copy_from_slice(&self.next().to_le_bytes()[..part.len()]);
+        }
+    }
+}
+
+/// Both sides of every boundary of a length.
+const LENGTHS: [usize; 25] = [
+    0, 1, 2, 6, 7, 8, 9, 16, 17, 18, 56, 57, 58, 59, 60, 115, 116, 117, 118, 175, 176, 1024, 7608,
+    7609, 7610,
+];
+
+const GAPS: [u64; 22] = [
+    1, 1, 2, 10, 49, 50, 98, 99, 99, 100, 100, 101, 500, 999, 1000, 1001, 4999, 5000, 5001, 9999,
+    10000, 10001,
+];
+
+pub fn setup(random: &mut Random) -> Setup {
+    let any = random.below(7610);
+    Setup {
+        max: random.of(&[
+            7609, 7609, 7609, 7609, 7608, 1024, 118, 117, 116, 59, 58, 57, 56, 17, 16, 9, 8, 7, 1,
+            0, any, any, any,
+        ]),
+        allocated: random.of(&[
+            0,
+            0,
+            1,
+            2,
+            2,
+            3,
+            300,
+            0x0100_0000,
+            0xffff_fffb,
+            0xffff_fffc,
+            0xffff_fffd,
+            0xffff_fffe,
+        ]),
+        slack: random.of(&[0, 0, 1, 47]),
+        fill: random.next() as u8,
+    }
+}
+
+pub fn start(random: &mut Random) -> u64 {
+    match random.below(8) {
+        0 => LAST_TIME - random.below(200_000) as u64,
+        1 => (1 << 32) - random.below(2000) as u64,
+        _ => random.below(1000) as u64,
+    }
+}
+
+fn answer(random: &mut Random) -> usize {
+    match random.below(40) {
+        0 => random.of(&[7605, 7606, 7607, 7608, 7609, 7610, 7611, 8000, 20_000]),
+        _ => random.of(&[0, 1, 2, 3, 54, 55, 56, 57, 58, 59, 115, 116, 117]),
+    }
+}
+
+fn length(random: &mut Random, cmd: u8, max: usize) -> usize {
+    match cmd {
+        6 => random.of(&[8, 8, 8, 8, 8, 8, 7, 9, 0, 57, 58, 60]),
+        4 => random.of(&[1, 1, 1, 1, 1, 0, 2, 58]),
+        8 => random.of(&[0, 0, 0, 1, 58]),
+        _ => match random.below(8) {
+            0 => random.below(7612),
+            1 => random.of(&[max, max + 1, max.saturating_sub(1), 65_535]),
+            2..4 => random.of(&LENGTHS),
+            _ => random.of(&LENGTHS[..21]),
+        },
+    }
+}
+
+fn command(random: &mut Random) -> u8 {
+    match random.below(20) {
+        0 => random.below(128) as u8,
+        _ => random.of(&[
+            1, 1, 1, 3, 3, 4, 4, 6, 6, 8, 8, 16, 16, 17, 59, 63, 0, 2, 5, 64, 127,
+        ]),
+    }
+}
+
+/// A packet after the state that it will find: what goes on, and what nearly does.
+pub fn wild(random: &mut Random, hid: &CtapHid, time: &mut u64) -> Step {
+    if random.one_in(4) {
+        *time += random.of(&GAPS);
+    }
+    // at once before, at or past a deadline
+    if random.one_in(30) {
+        let deadline = random.of(&[hid.assembler.deadline, hid.lock]);
+        *time = (deadline + random.of(&[0, 1, 2]))
+            .saturating_sub(1)
+            .max(*time);
+    }
+    *time = (*time).min(LAST_TIME);
+    let mut packet = [0; 64];
+    random.fill(&mut packet);
+    let count = hid.allocated;
+    let a = &hid.assembler;
+    let mut cid = random.of(&[
+        BROADCAST,
+        BROADCAST,
+        0,
+        1,
+        1,
+        1,
+        2,
+        2,
+        count,
+        count.wrapping_add(1),
+        0xffff_fffe,
+        0x0100_0000,
+        hid.locked,
+        hid.locked,
+        a.cid,
+    ]);
+    if a.len > 0 && !random.one_in(7) {
+        cid = a.cid;
+        packet[4] = a.seq as u8;
+        if random.one_in(14) {
+            let seq = a.seq as u8;
+            packet[4] = random.of(&[0, 1, seq + 1, seq.wrapping_sub(1), 127, 0x91, 0x86, 0x81]);
+            if packet[4] == 0x86 {
+                packet[5..7].copy_from_slice(&[0, 8]);
+            }
+        }
+        if random.one_in(20) {
+            cid = random.of(&[1, 2, BROADCAST, 0]);
+        }
+    } else if random.one_in(6) {
+        packet[4] &= 127;
+    } else {
+        let cmd = command(random);
+        let len = length(random, cmd, hid.max as usize);
+        packet[4] = 128 | cmd;
+        packet[5..7].copy_from_slice(&(len as u16).to_be_bytes());
+        if cmd == 4 {
+            packet[7] = random.of(&[0, 1, 1, 1, 2, 9, 10, 11, 12, 255]);
+        }
+    }
+    packet[..4].copy_from_slice(&cid.to_be_bytes());
+    Step {
+        time: *time,
+        disabled: random.one_in(25),
+        packet,
+        answer: answer(random),
+    }
+}
+
+/// Hosts that each send whole messages, in turns; some of them badly.
+pub struct Hosts {
+    hosts: Vec<Host>,
+    /// Which one sends, mostly until its message is through.
+    turn: usize,
+}
+
+struct Host {
+    cid: u32,
+    bad: bool,
+    queue: VecDeque<HidPacket>,
+}
+
+impl Hosts {
+    pub fn new(random: &mut Random) -> Self {
+        let hosts = (0..1 + random.below(4))
+            .map(|_| Host {
+                cid: BROADCAST,
+                bad: random.one_in(3),
+                queue: VecDeque::new(),
+            })
+            .collect();
+        Hosts { hosts, turn: 0 }
+    }
+
+    pub fn step(&mut self, random: &mut Random, hid: &CtapHid, time: &mut u64) -> Step {
+        if random.one_in(30) {
+            *time += random.of(&GAPS);
+        } else if random.one_in(3) {
+            *time += random.below(12) as u64;
+        }
+        *time = (*time).min(LAST_TIME);
+        if self.hosts[self.turn].queue.is_empty() || random.one_in(25) {
+            self.turn = random.below(self.hosts.len());
+        }
+        let host = &mut self.hosts[self.turn];
+        if host.queue.is_empty() {
+            // a host without a channel asks for one; it will be the next
+            if host.cid == BROADCAST && hid.allocated != 0 && random.one_in(2) {
+                host.cid = hid.allocated;
+            }
+            let cmd = match host.cid {
+                BROADCAST => 6,
+                _ => command(random),
+            };
+            let len = length(random, cmd, hid.max as usize);
+            host.queue = message(random, host.cid, cmd, len);
+        }
+        let mut packet = host.queue.pop_front().unwrap();
+        if host.bad && random.one_in(6) {
+            match random.below(5) {
+                0 => host.queue.push_front(packet),
+                1 => _ = host.queue.pop_front(),
+                2 => packet[4] = packet[4].wrapping_add(1),
+                3 => packet[random.below(8)] ^= 1 << random.below(8),
+                _ => host.queue.clear(),
+            }
+        }
+        Step {
+            time: *time,
+            disabled: random.one_in(200),
+            packet,
+            answer: answer(random),
+        }
+    }
+}
+
+/// A host's own packets, by the standard's rule.
+fn message(random: &mut Random, cid: u32, cmd: u8, len: usize) -> VecDeque<HidPacket> {
+    let mut payload = vec![0; len];
+    random.fill(&mut payload);
+    if cmd == 4 && len > 0 {
+        payload[0] = random.of(&[0, 0, 1, 1, 2, 10, 11]);
+    }
+    let mut all = VecDeque::new();
+    let mut rest = &payload[..];
+    let mut number = 0;
+    while all.is_empty() || !rest.is_empty() {
+        let mut packet = [0; 64];
+        packet[..4].copy_from_slice(&cid.to_be_bytes());
+        let from = if all.is_empty() {
+            packet[4] = 128 | cmd;
+            packet[5..7].copy_from_slice(&(len as u16).to_be_bytes());
+            7
+        } else {
+            packet[4] = number & 127;
+            number = number.wrapping_add(1);
+            5
+        };
+        let now = rest.len().min(64 - from);
+        packet[from..from + now].copy_from_slice(&rest[..now]);
+        rest = &rest[now..];
+        all.push_back(packet);
+    }
+    all
+}
+
+/// A copy with a few damages.
+pub fn damaged(random: &mut Random, good: &[Step]) -> Vec<Step> {
+    let mut steps = good.to_vec();
+    for _ in 0..1 + random.below(4) {
+        if steps.len() < 2 {
+            break;
+        }
+        let at = random.below(steps.len() - 1);
+        match random.below(7) {
+            0 => _ = steps.remove(at),
+            1 => steps.insert(at, steps[at].clone()),
+            2 => {
+                let packet = steps[at].packet;
+                steps[at].packet = steps[at + 1].packet;
+                steps[at + 1].packet = packet;
+            }
+            3 => steps[at].packet[random.below(8)] ^= 1 << random.below(8),
+            4 => steps[at].packet[random.below(64)] = random.next() as u8,
+            5 => steps[at].disabled = !steps[at].disabled,
+            _ => {
+                let gap = random.of(&GAPS);
+                for step in &mut steps[at..] {
+                    step.time = (step.time + gap).min(LAST_TIME);
+                }
+            }
+        }
+    }
+    steps
+}
+
+/// The letters of the exhaustive set: time to pass first, transport disabled, and the packet. For a
+/// maximum of 117; channels 1 and 2 are allocated.
+pub fn letters() -> Vec<(u64, bool, HidPacket)> {
+    let all: &[(u64, u32, &[u8])] = &[
+        // broadcast
+        (0, BROADCAST, &[0x86, 0, 8, 1, 2, 3, 4, 5, 6, 7, 8]),
+        (0, BROADCAST, &[0x86, 0, 60]),
+        (0, BROADCAST, &[0]),
+        (0, BROADCAST, &[0x81, 0, 0]),
+        // every command on channel 1
+        (0, 1, &[0x86, 0, 8, 9, 9]),
+        (0, 1, &[0x86, 0, 58]),
+        (0, 1, &[0x81, 0, 0]),
+        (0, 1, &[0x81, 0, 57, 1]),
+        (0, 1, &[0x81, 0, 58, 2]),
+        (0, 1, &[0x81, 0, 118]),
+        (0, 1, &[0x83, 0, 1, 3]),
+        (0, 1, &[0x83, 0, 116]),
+        (0, 1, &[0x84, 0, 1, 0]),
+        (0, 1, &[0x84, 0, 1, 1]),
+        (0, 1, &[0x84, 0, 1, 10]),
+        (0, 1, &[0x84, 0, 1, 11]),
+        (0, 1, &[0x84, 0, 2, 1]),
+        (0, 1, &[0x88, 0, 0]),
+        (0, 1, &[0x88, 0, 1]),
+        (0, 1, &[0x90, 0, 1, 4]),
+        (0, 1, &[0x90, 0, 117, 5]),
+        (0, 1, &[0x91, 0, 0]),
+        (0, 1, &[0xbb, 0, 1]),
+        (0, 1, &[0xbf, 0, 0]),
+        (0, 1, &[0x82, 0, 0]),
+        (0, 1, &[0xc0, 0, 58]),
+        // continuations, and the edges of time
+        (0, 1, &[0, 6]),
+        (99, 1, &[0, 6]),
+        (100, 1, &[0, 6]),
+        (101, 1, &[0, 6]),
+        (0, 1, &[1, 7]),
+        (99, 1, &[1, 7]),
+        (100, 1, &[1, 7]),
+        (0, 1, &[127]),
+        (4999, 1, &[5]),
+        (5000, 1, &[5]),
+        // another channel
+        (0, 2, &[0x81, 0, 58]),
+        (0, 2, &[0]),
+        (1, 2, &[0]),
+        (0, 2, &[0x84, 0, 1, 1]),
+        (100, 2, &[0x81, 0, 0]),
+        (999, 2, &[0x81, 0, 0]),
+        (1000, 2, &[0x81, 0, 0]),
+        // channels that are not there
+        (0, 0, &[0x81, 0, 0]),
+        (0, 0, &[0]),
+        (0, 3, &[0x81, 0, 0]),
+        (0, 3, &[0]),
+    ];
+    let off: &[(u64, u32, &[u8])] = &[
+        (0, BROADCAST, &[0x86, 0, 8]),
+        (0, 1, &[0x81, 0, 1]),
+        (0, 1, &[0]),
+    ];
+    let letter = |disabled: bool, (gap, cid, rest): &(u64, u32, &[u8])| {
+        let mut packet = [0; 64];
+        packet[..4].copy_from_slice(&cid.to_be_bytes());
+        packet[4..4 + rest.len()].copy_from_slice(rest);
+        (*gap, disabled, packet)
+    };
+    let on = all.iter().map(|l| letter(false, l));
+    on.chain(off.iter().map(|l| letter(true, l))).collect()
+}
