@@ -56,12 +56,12 @@ receives-is s wink m h room =
     (λ e. tt)
     (λ e.
     let t = h .transaction (eqb-false (s .assembler .len) 0 e) in
-    let size : length (take (s .assembler .taken) m) ≡ s .assembler .taken = length-take-le (s .assembler .taken) m (omega (arith, t .below, t .bytes, t .most)) in
+    let size : length (take (s .assembler .taken) m) ≡ s .assembler .taken = length-take-le (s .assembler .taken) m (omega (arith, t .lengths .below, t .lengths .bytes, t .lengths .within)) in
     record {
       command = t .command;
-      most = t .most;
-      below = omega (arith, t .below, t .bytes);
-      bytes = size ∙ sym (t .bytes);
+      most = t .lengths .within;
+      below = omega (arith, t .lengths .below, t .lengths .bytes);
+      bytes = size ∙ sym (t .lengths .bytes);
       deadline = h .deadline;
       channel = t .channel;
     })
@@ -113,7 +113,7 @@ same-assembler s wink m h room = by-len (ℕ-discrete (s .assembler .len) 0)
     by-len (yes z) = simp (eq-eqb _ _ z)
     by-len (no z) =
         let t = h .transaction z in
-        let size : length (take (s .assembler .taken) m) ≡ s .assembler .taken = length-take-le (s .assembler .taken) m (omega (arith, t .below, t .bytes, t .most)) in
+        let size : length (take (s .assembler .taken) m) ≡ s .assembler .taken = length-take-le (s .assembler .taken) m (omega (arith, t .lengths .below, t .lengths .bytes, t .lengths .within)) in
         let alike : assemblerOf (busy (transactionOf (s .assembler) m)) ≡ s .assembler =
         λ i. record { deadline = s .assembler .deadline; cid = s .assembler .cid; len = s .assembler .len; taken = size i; cmd = s .assembler .cmd; seq = s .assembler .seq } in
         simp (ne-eqb _ _ z) alike
@@ -131,8 +131,8 @@ receives-of s p m r h =
       room = h .room;
       early = h .sound .last;
       formed = h .formed;
-      adds = λ z. record { taken = omega (arith, t z .below, t z .bytes); room = omega (arith, t z .most, h .room); command = t z .command };
-      due = λ z. omega (arith, t z .below, t z .most, h .sound .maximum);
+      adds = λ z. record { taken = omega (arith, t z .lengths .below, t z .lengths .bytes); room = omega (arith, t z .lengths .within, h .room); command = t z .command };
+      due = λ z. omega (arith, t z .lengths .below, t z .lengths .within, h .sound .maximum);
     }
 
 -- ---- checks 3 to 7: the cases of what the receiver says

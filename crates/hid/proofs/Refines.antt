@@ -69,8 +69,8 @@ stands-already s wink m h room =
     (λ e. tt)
     (λ e.
     let t = h .transaction (eqb-false (s .assembler .len) 0 e) in
-    let size : length (take (s .assembler .taken) m) ≡ s .assembler .taken = length-take-le (s .assembler .taken) m (omega (arith, t .below, t .bytes, t .most)) in
-    (omega (arith, t .long), ap (λ (n : ℕ). take n m) size))
+    let size : length (take (s .assembler .taken) m) ≡ s .assembler .taken = length-take-le (s .assembler .taken) m (omega (arith, t .lengths .below, t .lengths .bytes, t .lengths .within)) in
+    (omega (arith, t .lengths .long), ap (λ (n : ℕ). take n m) size))
 
 -- ---- an answer's payload is where the code says
 abbrev Carried : standard.Answer → List ℕ → Type 0
@@ -190,10 +190,7 @@ module _ (s : CtapHid) (wink time : ℕ) (disabled : Bool) (p : Packet) (m : Lis
     h .deadline,
     λ z. record {
       command = h .command;
-      long = omega (arith, h .below, h .bytes);
-      most = h .most;
-      below = omega (arith, h .below, h .bytes);
-      bytes = sym (h .bytes);
+      lengths = record { long = omega (arith, h .below, h .bytes); within = h .most; below = omega (arith, h .below, h .bytes); bytes = sym (h .bytes) };
       channel = h .channel;
     },
   )

@@ -10,6 +10,8 @@ use lib.Dec.{leb, ltb, eqb}
 use Rattle.ctaphid.specs.Choice.{pick}
 use Rattle.ctaphid.specs.Transport.{isAllocated}
 use Rattle.ctaphid.proofs.Tests.{pick-true, pick-known}
+use Rattle.collect.specs.Standing.{isStanding}
+use Rattle.collect.proofs.Standing.{stands-is, is-standing}
 use Rattle.hid.specs.declared.MessageAssembler.{MessageAssembler}
 use Rattle.hid.specs.declared.CtapHid.{CtapHid}
 use Rattle.hid.specs.Soundness.{Allocated, Transacts, Sound, isOnChannel, transacts, isAtRest, isHeld, isTimely, isSound}
@@ -21,6 +23,13 @@ module _ (n c : ℕ) (b : Bool) (e : b ≡ isAllocated n c) where
 
   pub allocated-no : b ≡ false → isAllocated n c ≡ false
   allocated-no t = sym e ∙ t
+
+module _ (most len taken seq : ℕ) (b : Bool) (e : b ≡ isStanding most len taken seq) where
+  pub standing-yes : b ≡ true → isStanding most len taken seq ≡ true
+  standing-yes t = sym e ∙ t
+
+  pub standing-no : b ≡ false → isStanding most len taken seq ≡ false
+  standing-no t = sym e ∙ t
 
 module _ (s : CtapHid) (wink : ℕ) (b : Bool) (e : b ≡ isTimely s wink) where
   pub timely-yes : b ≡ true → isTimely s wink ≡ true
@@ -45,17 +54,11 @@ transacts-is : (max n : ℕ) (a : MessageAssembler) → transacts max n a ≡ tr
 unfolding transacts
 transacts-is max n a e =
     let p₁ = pick-true (leb (a .cmd) 127) _ e in
-    let p₂ = pick-true (ltb 57 (a .len)) _ (p₁ .1) in
-    let p₃ = pick-true (leb (a .len) max) _ (p₂ .1) in
-    let p₄ = pick-true (ltb (57 + 59 * a .seq) (a .len)) _ (p₃ .1) in
-    let p₅ = pick-true (eqb (57 + 59 * a .seq) (a .taken)) _ (p₄ .1) in
+    let p₂ = pick-true (isStanding max (a .len) (a .taken) (a .seq)) _ (p₁ .1) in
     record {
       command = leb-true (a .cmd) 127 (p₁ .0);
-      long = ltb-true 57 (a .len) (p₂ .0);
-      most = leb-true (a .len) max (p₃ .0);
-      below = ltb-true (57 + 59 * a .seq) (a .len) (p₄ .0);
-      bytes = eqb-true (57 + 59 * a .seq) (a .taken) (p₅ .0);
-      channel = on-channel-is n (a .cid) (a .cmd) (p₅ .1);
+      lengths = stands-is max (a .len) (a .taken) (a .seq) (p₂ .0);
+      channel = on-channel-is n (a .cid) (a .cmd) (p₂ .1);
     }
 
 at-rest-is : (max n : ℕ) (a : MessageAssembler) → isAtRest max n a ≡ true → (a .len ≡ 0 → ⊥) → Transacts max n a
@@ -110,7 +113,7 @@ is-on-channel n c cmd (inr b) = go (isAllocated n c)
 is-transacting : (max n : ℕ) (a : MessageAssembler) → Transacts max n a → transacts max n a ≡ true
 unfolding transacts pick
 is-transacting max n a t =
-    simp (le-leb _ _ (t .command), lt-ltb 57 (a .len) (t .long), le-leb (a .len) max (t .most), lt-ltb (57 + 59 * a .seq) (a .len) (t .below), eq-eqb (57 + 59 * a .seq) (a .taken) (t .bytes)) (is-on-channel n (a .cid) (a .cmd) (t .channel))
+    simp (le-leb _ _ (t .command), is-standing max (a .len) (a .taken) (a .seq) (t .lengths)) (is-on-channel n (a .cid) (a .cmd) (t .channel))
 
 is-at-rest : (max n : ℕ) (a : MessageAssembler) → ((a .len ≡ 0 → ⊥) → Transacts max n a) → isAtRest max n a ≡ true
 unfolding isAtRest pick

@@ -7,19 +7,17 @@ use mathlib.Core.Logic.{_⊎_}
 use lib.Dec.{ltb, leb, eqb}
 use Rattle.ctaphid.specs.Choice.{pick, every}
 use Rattle.ctaphid.specs.Transport.{isAllocated}
+use Rattle.collect.specs.Standing.{Stands, isStanding}
 use Rattle.hid.specs.declared.MessageAssembler.{MessageAssembler}
 use Rattle.hid.specs.declared.CtapHid.{CtapHid}
 
 abbrev pub Allocated : (allocated channel : ℕ) → Type 0
 Allocated allocated c = (1 ≤ c) × (c ≤ allocated)
 
--- with a transaction
+-- with a transaction. `Stands`: 57 < declared length ≤ maximum, 57 + 59s below it and equal to the bytes taken
 pub record Transacts (max allocated : ℕ) (a : MessageAssembler) : Type 0 where
   pub command : a .cmd ≤ 127
-  pub long : 57 < a .len
-  pub most : a .len ≤ max
-  pub below : 57 + 59 * a .seq < a .len
-  pub bytes : 57 + 59 * a .seq ≡ a .taken
+  pub lengths : Stands max (a .len) (a .taken) (a .seq)
   pub channel : Allocated allocated (a .cid) ⊎ ((a .cid ≡ 0xffff_ffff) × (a .cmd ≡ 6))
 
 -- a transport's state, and until when a wink runs
@@ -40,13 +38,7 @@ isOnChannel allocated c cmd = pick (isAllocated allocated c) true (pick (eqb c 0
 
 unfoldable pub transacts : (max allocated : ℕ) → MessageAssembler → Bool
 transacts max allocated a =
-    every (leb (a .cmd) 127
-    ∷ ltb 57 (a .len)
-    ∷ leb (a .len) max
-    ∷ ltb (57 + 59 * a .seq) (a .len)
-    ∷ eqb (57 + 59 * a .seq) (a .taken)
-    ∷ isOnChannel allocated (a .cid) (a .cmd)
-    ∷ [])
+    every (leb (a .cmd) 127 ∷ isStanding max (a .len) (a .taken) (a .seq) ∷ isOnChannel allocated (a .cid) (a .cmd) ∷ [])
 
 unfoldable pub isAtRest : (max allocated : ℕ) → MessageAssembler → Bool
 isAtRest max allocated a = pick (eqb (a .len) 0) true (transacts max allocated a)

@@ -69,23 +69,13 @@ fn is_at_rest(max: u32, allocated: u32, a: MessageAssembler) -> bool
 fn transacts(max: u32, allocated: u32, a: MessageAssembler) -> bool
     ensures { λ r. ⌜ r ≡ transacts max allocated a ⌝ }
 {
-    let at = 57 + 59 * (a.seq as u32);
     if a.cmd > 127 {
         return false;
     }
-    if a.len <= 57 {
-        return false;
+    if collect::stands(max as usize, a.len as usize, a.taken as usize, a.seq) {
+        return is_on_channel(allocated, a.cid, a.cmd);
     }
-    if a.len > max {
-        return false;
-    }
-    if a.len <= at {
-        return false;
-    }
-    if at != a.taken {
-        return false;
-    }
-    is_on_channel(allocated, a.cid, a.cmd)
+    false
 }
 
 // An allocated channel, or INIT on the broadcast channel.
