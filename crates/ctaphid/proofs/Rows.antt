@@ -60,6 +60,8 @@ further-rows = record {
   split-7610 = λ payload n. let h : 7609 < length payload = omega arith in simp (lt-ltb _ _ h);
   bytes-255 = up-to-255;
   bytes-256 = λ h. absurd (omega (arith, h 0));
+  formed-first = λ c cmd n field h. (omega (arith, h .0), omega (arith, h .1), omega (arith, h .2), h .3);
+  formed-later = λ c k field h. (omega (arith, h .0), omega (arith, h .1), h .2);
   channels = refl;
   none-at-first = refl;
   grows = refl;

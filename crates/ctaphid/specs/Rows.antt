@@ -1,11 +1,11 @@
 -- Rows A to L of the scope's table, and further ones. Packets are bytes and numbers are bare, so that a wrong number in a table is noticed. Assumes nothing.
-use Prim.Native.Nat.{ℕ, zero, suc, _+_, _-_}
+use Prim.Native.Nat.{ℕ, zero, suc, _+_, _-_, _≤_}
 use mathlib.Core.Path.{_≡_}
 use mathlib.Core.List.{List, [], _∷_, _++_, map}
 use mathlib.Core.Bool.{Bool, true, false}
 use lib.ListN.{length, getD, replicate}
 use Rattle.ctaphid.specs.Choice.{refusing}
-use Rattle.ctaphid.specs.Packets.{Packet, initialization, continuation, byte, read, Bytes}
+use Rattle.ctaphid.specs.Packets.{Packet, initialization, continuation, byte, read, Bytes, Formed}
 use Rattle.ctaphid.specs.Messages.{count, wire, splitWire}
 use Rattle.ctaphid.specs.Commands.{Command, MSG, CBOR, INIT, PING, CANCEL, ERROR, KEEPALIVE, WINK, LOCK, number, is, commandOf}
 use Rattle.ctaphid.specs.Errors.{InvalidCmd, InvalidPar, InvalidLen, InvalidSeq, MsgTimeout, ChannelBusy, LockRequired, InvalidChannel, Other, code}
@@ -213,6 +213,10 @@ pub record FurtherRows : Type 0 where
   -- bytes are 0 to 255
   pub bytes-255 : Bytes (255 ∷ [])
   pub bytes-256 : Bytes (256 ∷ []) → ⊥
+  -- the ranges of a packet's parts
+  pub formed-first : (channel command declared : ℕ) (field : List ℕ) → Formed (initialization channel command declared field)
+      → (channel ≤ 0xffff_ffff) × (command ≤ 127) × (declared ≤ 0xffff) × (length field ≡ 57)
+  pub formed-later : (channel number : ℕ) (field : List ℕ) → Formed (continuation channel number field) → (channel ≤ 0xffff_ffff) × (number ≤ 127) × (length field ≡ 59)
   -- channels: 1 up to the count, which grows by one
   pub channels : answers (having 2) (at 0 (pingOn 1) ∷ at 0 (pingOn 2) ∷ at 0 (pingOn 3) ∷ []) ≡ echo 1 ∷ echo 2 ∷ told 3 11 ∷ []
   pub none-at-first : answers (setUp full) (at 0 (pingOn 1) ∷ []) ≡ told 1 11 ∷ []
