@@ -3,3 +3,4 @@ pub mod Receiving
 pub mod Refusing
 pub mod Fields
 pub mod Refines
+pub mod Unique
