@@ -2,3 +2,5 @@ pub mod Sound
 pub mod Receiving
 pub mod Refusing
 pub mod Fields
+pub mod Refines
+pub mod Unique

@@ -45,6 +45,15 @@ impl Collection {
         }
         left(self, Answer::Refused(3))
     }
+
+    // The same over a lent collection, which is left as it came where the packet is refused or ignored.
+    pub fn take_packet(&mut self, cid: u32, packet: &[u8], buffer: &mut [u8]) -> Answer
+        ensures { λ r. ⌜ reading (record { collection = now (self .exit); answer = r }) (now (buffer .exit)) ≡ readOf (now (self .entry)) cid (now (packet .entry)) (now (buffer .entry)) ⌝ }
+    {
+        let progress = self.read(cid, packet, buffer);
+        *self = progress.collection;
+        progress.answer
+    }
 }
 
 // The collection stays as it was.
