@@ -106,7 +106,7 @@ impl Definition {
             match (effect.inner.kind, cmd) {
                 (MESSAGE, 8) if len > 0 => error(3),
                 (MESSAGE, 8) => {
-                    effect.outer = told(REPLY, cid, 8, 0);
+                    effect.outer = told(ECHO, cid, 8, 0);
                     self.wink = time
                         + match self.fault {
                             "wink-4999" => 4999,

@@ -90,6 +90,8 @@ impl Driver {
             let cid = (len as u32).wrapping_mul(0x0123_4567);
             let sent = pair::send(cid, cmd, &self.answers[..len], self.fault);
             self.alone(format!("a message of {len} bytes"), sent);
+            let made = pair::ready_made(cid, self.fault);
+            self.alone(format!("KEEPALIVE or busy on {cid:08x}"), made);
         }
         let mut random = Random::new(self.seed);
         for fifth in 0..=255 {

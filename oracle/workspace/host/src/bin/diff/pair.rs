@@ -4,7 +4,8 @@ use crate::ours::{self, ECHO, MESSAGE, NOTHING, Outcome, REPLY};
 use host::{HostEnv, Timer};
 use opensk::ctap::CtapState;
 use opensk::ctap::hid::{
-    CtapHid, CtapHidCommand, HidPacket, HidPacketIterator, Message, ProcessedPacket,
+    CtapHid, CtapHidCommand, HidPacket, HidPacketIterator, KeepaliveStatus, Message,
+    ProcessedPacket,
 };
 use opensk::ctap::main_hid::MainHid;
 
@@ -491,6 +492,19 @@ pub fn packets(
         }
     }
     unreachable!()
+}
+
+/// The two replies that OpenSK's transport makes of a channel alone.
+pub fn ready_made(cid: u32, fault: &str) -> Result<(), String> {
+    let bytes = cid.to_be_bytes();
+    for (status, number) in [
+        (KeepaliveStatus::Processing, 1),
+        (KeepaliveStatus::UpNeeded, 2),
+    ] {
+        let keepalive = CtapHid::<HostEnv>::keepalive(bytes, status);
+        packets(keepalive, cid, 59, &[number], fault)?;
+    }
+    packets(CtapHid::<HostEnv>::busy_error(bytes), cid, 63, &[6], fault)
 }
 
 /// A message of any length through both senders.

@@ -97,7 +97,8 @@ fn length(random: &mut Random, cmd: u8, max: usize) -> usize {
         4 => random.of(&[1, 1, 1, 1, 1, 0, 2, 58]),
         8 => random.of(&[0, 0, 0, 1, 58]),
         _ => match random.below(8) {
-            0 => random.below(7612),
+            0 if random.one_in(4) => random.below(7612),
+            0 => random.below(400),
             1 => random.of(&[max, max + 1, max.saturating_sub(1), 65_535]),
             2..4 => random.of(&LENGTHS),
             _ => random.of(&LENGTHS[..21]),
