@@ -13,7 +13,7 @@ use Rattle.ctaphid.specs.Choice.{pick}
 use Rattle.ctaphid.specs.Packets.{Packet, initialization, continuation, byte, channelIn, declaredIn, read, written, Formed}
 use Rattle.ctaphid.specs.Messages.{later, chunks, padded, fields, continuations, packets, wire}
 use Rattle.ctaphid.specs.Receiver.{channelOf}
-use Rattle.ctaphid.specs.Host.{Begun, Collection, none, collecting, Heard, ignored, waiting, reply, Got, got, gather, begin, whenNone, whenBegun, onOwn, hear, answers, after, atLast, own, woven, Sendable, RoundTrip, RoundTrips}
+use Rattle.ctaphid.specs.Host.{Begun, Collection, none, collecting, Heard, ignored, keepalive, waiting, reply, Got, got, gather, alive, begin, whenNone, whenBegun, onOwn, hear, answers, after, atLast, own, woven, Sendable, RoundTrip, RoundTrips}
 use Rattle.ctaphid.proofs.Packets.{read-written}
 use Rattle.ctaphid.proofs.Splitting.{padded-full, later-length}
 use Rattle.ctaphid.proofs.Messages.{continuations-length}
@@ -223,12 +223,22 @@ module _ (c cmd : ℕ) (payload : List ℕ) (space : ℕ) (can : Sendable c cmd 
           let r = reads-later c space (can .channel) n (drop 57 payload) cmd n 0 (take 57 payload) (omega arith) (omega arith) (omega arith) (omega (arith, can .size)) in
           more c space none next _ rest _ (omega arith) e (subst (λ (t : List ℕ). Reads c space next rest (reply cmd t)) (take-append-drop 57 payload) r)
 
+  keeps-alive : (status : ℕ) → hear c space none (read (written (initialization c 0x3b 1 (padded 57 (status ∷ []))))) ≡ got none (keepalive status)
+  unfolding onOwn whenNone alive pick padded
+  keeps-alive status = hear-written c space (can .channel) none (initialization c 0x3b 1 (padded 57 (status ∷ []))) (can .channel, omega arith, omega arith, refl) refl
+
+  reported-is : (status : ℕ) → (answers c space none (wire c 0x3b (status ∷ [])) ≡ keepalive status ∷ []) × (after c space none (wire c 0x3b (status ∷ [])) ≡ none)
+  unfolding packets fields chunks later continuations
+  reported-is status = (ap (λ (g : Got). g .answer ∷ []) (keeps-alive status), ap (λ (g : Got). g .collection) (keeps-alive status))
+
   round-trip : RoundTrip c cmd payload space
   round-trip = record {
     given-back = reads-wire .0;
     done = reads-wire .1;
     given-back-among = λ ps e. among c space none ps .0 ∙ ap (λ (l : List (List ℕ)). woven c ps (answers c space none l)) e ∙ ap (woven c ps) (reads-wire .0);
     done-among = λ ps e. among c space none ps .1 ∙ ap (λ (l : List (List ℕ)). after c space none l) e ∙ reads-wire .1;
+    reported = λ status. reported-is status .0;
+    reported-none = λ status. reported-is status .1;
   }
 
 pub round-trips : RoundTrips

@@ -161,6 +161,9 @@ pub record RoundTrip (c cmd : ℕ) (payload : List ℕ) (space : ℕ) : Type 0 w
   pub given-back-among : (ps : List (List ℕ)) → own c ps ≡ wire c cmd payload
       → answers c space none ps ≡ woven c ps (atLast (reply cmd payload) (wire c cmd payload))
   pub done-among : (ps : List (List ℕ)) → own c ps ≡ wire c cmd payload → after c space none ps ≡ none
+  -- a KEEPALIVE before it is reported with its byte, and none is begun by it
+  pub reported : (status : ℕ) → answers c space none (wire c 0x3b (status ∷ [])) ≡ keepalive status ∷ []
+  pub reported-none : (status : ℕ) → after c space none (wire c 0x3b (status ∷ [])) ≡ none
 
 abbrev pub RoundTrips : Type 0
 RoundTrips = (c cmd : ℕ) (payload : List ℕ) (space : ℕ) → Sendable c cmd payload space → RoundTrip c cmd payload space
