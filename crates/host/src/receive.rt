@@ -160,10 +160,13 @@ fn begin(collection: Collection, cmd: u8, len: usize, data: &[u8], buffer: &mut 
         len: len as u16,
         taken: 0,
         cmd,
-        seq: 0,
+        seq: FIRST_SEQ,
     };
     gather(begun, data, buffer)
 }
+
+// Continuations are numbered from 0.
+const FIRST_SEQ: u8 = 0;
 
 // Data is added up to the declared length; then the reply is handed out, and none is begun.
 fn gather(collection: Collection, data: &[u8], buffer: &mut [u8]) -> Progress
