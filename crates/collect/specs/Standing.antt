@@ -4,7 +4,7 @@ use mathlib.Core.Path.{_≡_}
 use mathlib.Core.List.{[], _∷_}
 use mathlib.Core.Bool.{Bool}
 use lib.Dec.{ltb, leb, eqb}
-use Rattle.ctaphid.specs.Choice.{pick, every}
+use Rattle.ctaphid.specs.Choice.{every}
 
 -- more is declared than the first data field holds, and at most so much; the packets so far filled their data fields, and more is due
 pub record Stands (most declared taken due : ℕ) : Type 0 where

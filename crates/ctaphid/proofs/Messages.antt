@@ -1,12 +1,12 @@
 -- A message's packets over HID: how many, and which stands at an index. Assumes nothing.
-use mathlib.Core.Path.{_≡_, refl, sym, ap, _∙_}
-use Prim.Native.Nat.{ℕ, zero, suc, _+_, _*_, _/_, _≤_, _<_}
+use mathlib.Core.Path.{_≡_, refl, ap, _∙_}
+use Prim.Native.Nat.{ℕ, zero, suc, _+_, _*_, _/_, _<_}
 use mathlib.Core.List.{List, [], _∷_, map}
 use native.Mathlib.Omega.{arith}
 use native.Mathlib.Nat.{add-zero}
 use lib.Dec.{lit<}
-use lib.ListN.{length, take, drop, getD, length-map, length-drop}
-use Rattle.ctaphid.specs.Packets.{Packet, initialization, continuation, written}
+use lib.ListN.{length, take, drop, getD, length-map}
+use Rattle.ctaphid.specs.Packets.{initialization, continuation, written}
 use Rattle.ctaphid.specs.Messages.{later, chunks, count, padded, fields, continuations, packets, wire, CutsOverHid}
 use Rattle.ctaphid.proofs.Splitting.{chunks-length, chunks-later}
 

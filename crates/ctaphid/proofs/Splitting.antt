@@ -6,9 +6,9 @@ use native.Mathlib.Nat.{div-add-mod', mod-lt, mul-comm, suc-mul, div-lt-iff-lt-m
 use native.Mathlib.Numerals.{add-one, one-add}
 use native.Mathlib.Omega.{arith}
 use native.Mathlib.Decide.{decLe}
-use lib.ListN.{length, take, drop, getD, replicate, length-append, length-take, length-drop, take-append-drop}
-use lib.Seq.{take-all, take-nil, drop-nil, take-append-seam, take-append-add, take-append-le, drop-drop, length-take-le}
-use Rattle.ctaphid.specs.Messages.{later, chunks, count, padded, inFields, fields, room, Cuts}
+use lib.ListN.{length, take, drop, getD, length-drop, take-append-drop}
+use lib.Seq.{take-all, take-nil, drop-nil, take-append-seam, take-append-add, drop-drop, length-take-le}
+use Rattle.ctaphid.specs.Messages.{later, chunks, count, padded, fields, room, Cuts}
 
 -- a chunk more than hold what is past the first g of n bytes
 one-more : (g : ℕ) → 0 < g → (n : ℕ) → 0 < n → suc ((n - g + (g - 1)) / g) ≡ (n + (g - 1)) / g

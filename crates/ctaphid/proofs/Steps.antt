@@ -1,21 +1,20 @@
 -- What a step of the standard's transport does to a message that is on its way, and to packets of other channels. Assumes nothing.
 use Prim.Native.Nat.{ℕ, _+_, _≤_, _<_}
 use native.Mathlib.Omega.{arith}
-use mathlib.Core.Path.{_≡_, refl, ap, sym, subst, _∙_}
-use mathlib.Core.List.{List, [], _∷_, _++_}
+use mathlib.Core.Path.{_≡_, refl, ap, sym, subst}
+use mathlib.Core.List.{List, _++_}
 use mathlib.Core.Bool.{Bool, true, false, not, true≢false}
-use native.Mathlib.Decide.{decLe}
 use borrow.Author.Tests.{lt-ltb, le-ltb, le-leb, lt-leb, eq-eqb, ne-eqb, eqb-false, ltb-true, ltb-false, leb-true}
 use lib.Dec.{leb, eqb}
 use lib.ListN.{length, take}
 use Rattle.ctaphid.specs.Choice.{pick}
-use Rattle.ctaphid.specs.Packets.{Packet, initialization, continuation, byte, channelIn, read}
+use Rattle.ctaphid.specs.Packets.{Packet, initialization, continuation}
 use Rattle.ctaphid.specs.Commands.{number, among, commandOf}
 use Rattle.ctaphid.specs.Errors.{Error, ChannelBusy, InvalidChannel}
 use Rattle.ctaphid.specs.Limits.{timeout}
 use Rattle.ctaphid.specs.Receiver.{Transaction, Receiver, idle, busy, silent, fault, whole, Turn, turn, channelOf, collect, start, whenIdle, whenOver, onOwn, whenBusy, receive, isOn}
-use Rattle.ctaphid.specs.Transport.{Settings, Lock, Transport, Event, Next, next, error, broadcast, isAllocated, isValid, notValid, isLocked, isLockedBy, isLockedAgainst, isShut, withReceiver, dispatch, settle, settled, serve, hear}
-use Rattle.ctaphid.specs.Demands.{standard, latest, Taken, after, on, Message, aPing, aMsg, aWink, aCbor, numberOf, handedOut, HandsOut}
+use Rattle.ctaphid.specs.Transport.{Lock, Transport, Next, next, error, broadcast, isAllocated, isValid, notValid, isLocked, isLockedBy, isLockedAgainst, isShut, withReceiver, dispatch, settle, settled, serve, hear}
+use Rattle.ctaphid.specs.Demands.{Message, aPing, aMsg, aWink, aCbor, numberOf, handedOut, HandsOut}
 use Rattle.ctaphid.proofs.Tests.{pick-true, pick-both, pick-known}
 use Rattle.ctaphid.proofs.Transport.{hear-served}
 

@@ -4,10 +4,10 @@ use mathlib.Core.Path.{_≡_}
 use mathlib.Core.List.{List, [], _∷_}
 use mathlib.Core.Bool.{Bool, true, false}
 use mathlib.Core.Logic.{_⊎_}
-use lib.ListN.{length, getD}
+use lib.ListN.{length}
 use Rattle.ctaphid.specs.Packets.{byte, Bytes}
 use Rattle.ctaphid.specs.Messages.{wire}
-use Rattle.ctaphid.specs.Commands.{Command, MSG, CBOR, PING, ERROR, WINK, LOCK}
+use Rattle.ctaphid.specs.Commands.{MSG, CBOR, PING, ERROR, WINK, LOCK}
 use Rattle.ctaphid.specs.Receiver.{isOn}
 use Rattle.ctaphid.specs.Transport.{Settings, Transport, Event, Answer, nothing, reply, request, Next, fresh, isAllocated, isLockedBy, step}
 

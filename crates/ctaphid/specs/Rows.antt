@@ -2,12 +2,12 @@
 use Prim.Native.Nat.{ℕ, zero, suc, _+_, _-_, _≤_}
 use mathlib.Core.Path.{_≡_}
 use mathlib.Core.List.{List, [], _∷_, _++_, map}
-use mathlib.Core.Bool.{Bool, true, false}
+use mathlib.Core.Bool.{true, false}
 use lib.ListN.{length, getD, replicate}
 use Rattle.ctaphid.specs.Choice.{refusing}
-use Rattle.ctaphid.specs.Packets.{Packet, initialization, continuation, byte, read, Bytes, Formed}
+use Rattle.ctaphid.specs.Packets.{initialization, continuation, byte, read, Bytes, Formed}
 use Rattle.ctaphid.specs.Messages.{count, wire, splitWire}
-use Rattle.ctaphid.specs.Commands.{Command, MSG, CBOR, INIT, PING, CANCEL, ERROR, KEEPALIVE, WINK, LOCK, number, is, commandOf}
+use Rattle.ctaphid.specs.Commands.{MSG, CBOR, INIT, PING, CANCEL, ERROR, KEEPALIVE, WINK, LOCK, number, is, commandOf}
 use Rattle.ctaphid.specs.Errors.{InvalidCmd, InvalidPar, InvalidLen, InvalidSeq, MsgTimeout, ChannelBusy, LockRequired, InvalidChannel, Other, code}
 use Rattle.ctaphid.specs.Capabilities.{wink, cbor, nmsg, bit, capabilities}
 use Rattle.ctaphid.specs.Limits.{packetSize, largest, timeout, winkTime, lastTime}

@@ -4,7 +4,7 @@ use mathlib.Core.Path.{_≡_, refl, sym, ap, _∙_}
 use mathlib.Core.List.{List}
 use Rattle.ctaphid.specs.Commands.{number}
 use Rattle.packet.specs.Numbers.{commandMeant}
-use Rattle.packet.specs.Reading.{Read, readingOf, said, fieldOf}
+use Rattle.packet.specs.Reading.{readingOf, said, fieldOf}
 use Rattle.packet.specs.declared.command.CtapHidCommand.{CtapHidCommand}
 use Rattle.packet.specs.declared.ProcessedPacket.{ProcessedPacket}
 use Rattle.packet.specs.declared.ProcessedPacket.the-variants.{InitPacket, ContinuationPacket}

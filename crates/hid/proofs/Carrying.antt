@@ -1,18 +1,17 @@
 -- The code answers demand 3's events as the standard's transport does. Assumes nothing.
 use Prim.Native.Nat.{ℕ, _≤_}
 use native.Mathlib.Omega.{arith}
-use mathlib.Core.Path.{_≡_, refl, sym, ap, subst, _∙_}
+use mathlib.Core.Path.{_≡_, refl, ap, _∙_}
 use mathlib.Core.List.{List, [], _∷_}
-use mathlib.Core.Bool.{Bool}
 use lib.ListN.{length}
-use Rattle.ctaphid.specs.Transport.{Settings, Transport, Event, Answer, isLockedBy, step}
+use Rattle.ctaphid.specs.Transport.{Settings, Transport, Event, isLockedBy, step}
 use Rattle.ctaphid.specs.Receiver.{isOn}
 use Rattle.ctaphid.specs.Demands.{standard, Taken, latest, after, answer, GivesShare, Agrees, AnswersAlike}
 use Rattle.ctaphid.proofs.Carried.{delivery-carried}
 use Rattle.ctaphid.proofs.CarriedBounds.{none-shut-out-carried, transactions-end-carried, locks-end-carried}
-use Rattle.hid.specs.Meaning.{Said, transportOf}
+use Rattle.hid.specs.Meaning.{transportOf}
 use Rattle.hid.specs.Soundness.{Sound}
-use Rattle.hid.specs.Refining.{Comes, onEvent}
+use Rattle.hid.specs.Refining.{Comes}
 use Rattle.hid.specs.Carrying.{Held, code, answerIn}
 use Rattle.hid.proofs.Refines.{step-refines, sound-stays, set-up-sound, fresh-means, lends}
 

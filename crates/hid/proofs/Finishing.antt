@@ -1,18 +1,18 @@
 -- What a `return` of the outer layer meets. Assumes nothing.
-use Prim.Native.Nat.{ℕ, _+_, _≤_, _<_}
+use Prim.Native.Nat.{ℕ, _+_, _≤_}
 use native.Mathlib.Omega.{arith}
 use mathlib.Core.Path.{_≡_, refl, sym, ap, _∙_}
 use mathlib.Core.List.{List, [], _∷_}
-use mathlib.Core.Bool.{Bool, true, false, not, cond}
+use mathlib.Core.Bool.{Bool, true, false, cond}
 use borrow.Author.Tests.{eq-eqb, ne-eqb, le-ltb}
 use lib.Dec.{eqb}
 use lib.ListN.{length, set, length-append, length-drop}
-use Rattle.ctaphid.specs.Choice.{pick, refusing}
-use Rattle.ctaphid.specs.Commands.{Command, MSG, WINK, number}
-use Rattle.ctaphid.specs.Packets.{Packet, read}
+use Rattle.ctaphid.specs.Choice.{pick}
+use Rattle.ctaphid.specs.Commands.{Command, number}
+use Rattle.ctaphid.specs.Packets.{read}
 use Rattle.ctaphid.specs.Transport as standard
 use Rattle.ctaphid.specs.Transport.{Settings, Transport, Next, nothing, reply, request, hear}
-use Rattle.ctaphid.specs.Device.{Device, device, onWink, onMsg, onRequest, answered}
+use Rattle.ctaphid.specs.Device.{Device, onWink, onMsg, onRequest, answered}
 use Rattle.ctaphid.proofs.Tests.{pick-both}
 use Rattle.ctaphid.proofs.Invariant.{same-settings}
 use Rattle.packet.specs.Numbers.{commandMeant, commandCase}
@@ -30,7 +30,7 @@ use Rattle.hid.specs.Meaning.{settingsOf, transportOf, stateOf, answerOf
 use Rattle.hid.specs.Serving.{Stepping, stepping, servedOf, messageAfter, heardOf, Admits, refusals, refusalOf}
 use Rattle.hid.specs.declared.MainReady.the-variants as ready
 use Rattle.hid.specs.Asking.{freshHid, mainNewOf}
-use Rattle.hid.specs.Outer.{Finishing, finishing, outer, requestedOf, repliedAbove, finished, finishedOf, Winks, Msgs, Requests, Finishes, MainStepping, mainStepping, laidOut, mainHeardOf, mainStepOf}
+use Rattle.hid.specs.Outer.{Finishing, finishing, outer, requestedOf, repliedAbove, finishedOf, Winks, Msgs, Requests, Finishes, MainStepping, mainStepping, laidOut, mainHeardOf, mainStepOf}
 use Rattle.hid.proofs.Serving.{stored-front}
 use Rattle.hid.proofs.Refusing.{refused-by, none-refuse, admits-is}
 

@@ -1,26 +1,25 @@
 -- What a `return` of the transport's step meets. Assumes nothing.
-use Prim.Native.Nat.{ℕ, _+_, _*_, _≤_, _<_}
+use Prim.Native.Nat.{ℕ, _+_, _≤_}
 use native.Mathlib.Omega.{arith}
 use native.Mathlib.Decide.{ℕ-discrete}
 use mathlib.Core.Path.{_≡_, refl, sym, ap, subst, _∙_}
-use mathlib.Core.List.{List, [], _∷_, _++_}
+use mathlib.Core.List.{List, [], _∷_}
 use mathlib.Core.Bool.{Bool, true, false}
-use mathlib.Core.Logic.{inl, inr}
-use borrow.Author.Tests.{eq-eqb, ne-eqb, eqb-true, eqb-false}
+use borrow.Author.Tests.{eq-eqb, ne-eqb, eqb-false}
 use lib.Dec.{eqb}
-use lib.ListN.{length, take, drop, length-append, take-append-drop}
+use lib.ListN.{length, take, drop, length-append}
 use lib.Seq.{length-take-le, take-at}
 use Rattle.ctaphid.specs.Choice.{pick}
 use Rattle.ctaphid.specs.Errors.{Error, ChannelBusy, code}
 use Rattle.ctaphid.specs.Commands.{ERROR, commandOf}
-use Rattle.ctaphid.specs.Packets.{Packet, Formed}
+use Rattle.ctaphid.specs.Packets.{Packet}
 use Rattle.ctaphid.specs.Receiver.{Receiver, idle, busy, Reception, silent, fault, whole, Turn, turn, channelOf, receive}
 use Rattle.ctaphid.specs.Transport as standard
-use Rattle.ctaphid.specs.Transport.{Transport, Next, next, error, isValid, notValid, isShut, dispatch, settle, withReceiver, serve, hear}
+use Rattle.ctaphid.specs.Transport.{Transport, next, error, isValid, notValid, isShut, dispatch, settle, withReceiver, serve, hear}
 use Rattle.ctaphid.proofs.Tests.{pick-known}
 use Rattle.ctaphid.proofs.Transport.{hear-invalid, hear-shut, hear-served}
 use Rattle.ctaphid.proofs.Invariant as invariant
-use Rattle.ctaphid.proofs.Invariant.{Holds, Tells, Turns, turns-valid}
+use Rattle.ctaphid.proofs.Invariant.{Holds, Tells, turns-valid}
 use Rattle.packet.specs.Reading.{heard}
 use Rattle.packet.specs.declared.ProcessedPacket.{ProcessedPacket}
 use Rattle.packet.specs.declared.ProcessedPacket.the-variants.{InitPacket, ContinuationPacket}
@@ -30,12 +29,11 @@ use Rattle.hid.specs.declared.CtapHid.{CtapHid}
 use Rattle.hid.specs.declared.Answer.{Answer}
 use Rattle.hid.specs.declared.Answer.the-variants.{Nothing}
 use Rattle.hid.specs.declared.Stepped.{Stepped}
-use Rattle.hid.specs.declared.receive.Received.{Received}
 use Rattle.hid.specs.declared.receive.Received.the-variants as received
 use Rattle.hid.specs.declared.receive.Assembled.{Assembled}
-use Rattle.hid.specs.Meaning.{none, transactionOf, receiverOf, transportOf, assemblerOf, stateOf, answerOf}
-use Rattle.hid.specs.Soundness.{Sound, Transacts}
-use Rattle.hid.specs.Receiving.{Assembling, assembling, assembledOf, receivedOf, bufferOf, buffered, Adds, Receives}
+use Rattle.hid.specs.Meaning.{none, transactionOf, receiverOf, transportOf, assemblerOf, stateOf}
+use Rattle.hid.specs.Soundness.{Sound}
+use Rattle.hid.specs.Receiving.{Assembling, assembling, assembledOf, bufferOf, buffered, Receives}
 use Rattle.hid.specs.Serving.{Serving, serving, servedOf, answering, having, arriving, Hears, Serves, Stepping, stepping, steppingOf, messageAfter, heardOf}
 
 -- ---- the state as a packet meets it

@@ -8,7 +8,7 @@ use denote.Ref.{RefT}
 use Rattle.ctaphid.specs.Choice.{pick}
 use Rattle.packet.specs.declared.command.CtapHidCommand.{CtapHidCommand}
 use Rattle.hid.specs.declared.Answer.{Answer}
-use Rattle.hid.specs.declared.Answer.the-variants.{Refused, Nothing, Message, Echo, Reply}
+use Rattle.hid.specs.declared.Answer.the-variants.{Message, Echo, Reply}
 use Rattle.hid.specs.Asking.{upTo, IsFront, IsPayload}
 
 pub up-to-fits : (len : ℕ) (l : List ℕ) → len ≤ length l → take len l ≡ upTo len l

@@ -2,17 +2,17 @@
 use Prim.Native.Nat.{ℕ, _+_, _≤_, _<_}
 use native.Mathlib.Omega.{arith}
 use native.Mathlib.Decide.{decLe}
-use mathlib.Core.Path.{_≡_, refl, sym, ap, subst, _∙_}
-use mathlib.Core.List.{List, [], _++_}
+use mathlib.Core.Path.{_≡_, sym, ap, subst, _∙_}
+use mathlib.Core.List.{List, _++_}
 use mathlib.Core.Bool.{Bool, true, false}
 use borrow.Author.Tests.{lt-ltb, le-ltb, le-leb, lt-leb, eq-eqb, ne-eqb}
 use lib.Dec.{eqb}
-use lib.ListN.{length, take, drop, length-append, take-append-drop}
+use lib.ListN.{length, take, length-append, take-append-drop}
 use lib.Seq.{length-take-le}
 use Rattle.ctaphid.specs.Choice.{pick}
 use Rattle.ctaphid.specs.Errors.{Error, InvalidSeq, MsgTimeout, ChannelBusy, code}
 use Rattle.ctaphid.specs.Packets.{Packet, Formed}
-use Rattle.ctaphid.specs.Receiver.{Transaction, Receiver, idle, busy, silent, fault, Turn, turn, collect, start, whenIdle, whenOver, onOwn, whenBusy, receive}
+use Rattle.ctaphid.specs.Receiver.{Transaction, idle, busy, silent, fault, Turn, turn, collect, start, whenIdle, whenOver, onOwn, whenBusy, receive}
 use Rattle.packet.specs.Reading.{heard}
 use Rattle.packet.specs.declared.ProcessedPacket.{ProcessedPacket}
 use Rattle.packet.specs.declared.ProcessedPacket.the-variants.{InitPacket, ContinuationPacket}
@@ -21,10 +21,9 @@ use Rattle.collect.specs.declared.Added.{Added}
 use Rattle.collect.specs.declared.Added.the-variants.{Waiting, Whole, Refused}
 use Rattle.collect.proofs.Adding.{add-waits, add-whole}
 use Rattle.hid.specs.declared.MessageAssembler.{MessageAssembler}
-use Rattle.hid.specs.declared.receive.Received.{Received}
 use Rattle.hid.specs.declared.receive.Received.the-variants as received
 use Rattle.hid.specs.declared.receive.Assembled.{Assembled}
-use Rattle.hid.specs.Meaning.{none, transactionOf, receiverOf, assemblerOf}
+use Rattle.hid.specs.Meaning.{none, transactionOf, receiverOf}
 use Rattle.hid.specs.Receiving.{Assembling, assembling, assembledOf, Adds, Receives}
 
 -- ---- tests

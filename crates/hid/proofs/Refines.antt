@@ -1,35 +1,31 @@
 -- The code's steps refine the standard's, and keep the state sound. Assumes nothing.
-use Prim.Native.Nat.{ℕ, _+_, _*_, _≤_, _<_}
+use Prim.Native.Nat.{ℕ, _+_, _≤_, _<_}
 use native.Mathlib.Omega.{arith}
-use native.Mathlib.Decide.{ℕ-discrete}
 use mathlib.Core.Path.{_≡_, refl, sym, ap, subst, _∙_}
-use mathlib.Core.List.{List, [], _∷_, _++_, map}
-use mathlib.Core.Bool.{Bool, true, false, not, cond, true≢false}
+use mathlib.Core.List.{List, [], _∷_, map}
+use mathlib.Core.Bool.{Bool, true, false, cond, true≢false}
 use borrow.Author.Tests.{eq-eqb, ne-eqb, eqb-false, le-ltb}
 use lib.Dec.{eqb, ltb}
-use lib.ListN.{length, take, drop, getD, length-append, length-drop, take-append-drop}
+use lib.ListN.{length, take, drop, getD, length-append, length-drop}
 use lib.Seq.{length-take-le, take-at}
 use Rattle.ctaphid.specs.Choice.{pick}
 use Rattle.ctaphid.specs.Commands.{Command, MSG, CBOR, INIT, PING, CANCEL, ERROR, KEEPALIVE, WINK, LOCK, number, commandOf}
-use Rattle.ctaphid.specs.Errors.{ChannelBusy}
-use Rattle.ctaphid.specs.Packets.{Packet, initialization, continuation, read, Bytes, Formed}
-use Rattle.ctaphid.specs.Receiver.{Transaction, Receiver, idle, busy, Reception, silent, fault, whole, Turn, channelOf, receive}
+use Rattle.ctaphid.specs.Packets.{Packet, initialization, continuation, read, Formed}
+use Rattle.ctaphid.specs.Receiver.{Receiver, idle, busy, Reception, silent, fault, whole, Turn, channelOf, receive}
 use Rattle.ctaphid.specs.Transport as standard
-use Rattle.ctaphid.specs.Transport.{Settings, Transport, Event, Next, next, nothing, reply, request, error, isValid, notValid, isShut, onInit, onLock, dispatch, settle, withReceiver, serve, hear, step, run, fresh}
-use Rattle.ctaphid.specs.Device.{Device, device, onWink, onMsg, onRequest, answered as answeredAbove, above, deviceStep, deviceRun, setUp}
+use Rattle.ctaphid.specs.Transport.{Settings, Transport, Event, Next, nothing, reply, request, isValid, notValid, isShut, onInit, onLock, dispatch, settle, withReceiver, serve, hear, step, run, fresh}
+use Rattle.ctaphid.specs.Device.{Device, device, onWink, onMsg, onRequest, answered as answeredAbove, deviceStep, deviceRun}
 use Rattle.ctaphid.proofs.Tests.{pick-known, pick-both}
 use Rattle.ctaphid.proofs.Packets.{read-formed}
-use Rattle.ctaphid.proofs.Transport.{hear-invalid, hear-shut, hear-served}
 use Rattle.ctaphid.proofs.Invariant as invariant
-use Rattle.ctaphid.proofs.Invariant.{Holds, Tells, Turns, turns-valid, holds-later, holds-hear, same-settings}
-use Rattle.packet.specs.Numbers.{commandMeant, commandCase}
+use Rattle.ctaphid.proofs.Invariant.{Holds, Tells, turns-valid, holds-later, holds-hear, same-settings}
+use Rattle.packet.specs.Numbers.{commandCase}
 use Rattle.packet.proofs.Numbers.{meant-case}
 use Rattle.collect.specs.Adding.{front}
-use Rattle.hid.specs.declared.MessageAssembler.{MessageAssembler}
 use Rattle.hid.specs.declared.CtapHid.{CtapHid}
 use Rattle.hid.specs.declared.MainHid.{MainHid}
 use Rattle.hid.specs.declared.Answer.the-variants.{Echo, Reply}
-use Rattle.hid.specs.Meaning.{none, transactionOf, receiverOf, settingsOf, transportOf, assemblerOf, stateOf, isEcho, answerOf, replied, Said, refused, answered, said}
+use Rattle.hid.specs.Meaning.{transactionOf, receiverOf, settingsOf, transportOf, assemblerOf, stateOf, isEcho, answerOf, replied, answered, said}
 use Rattle.hid.specs.Soundness.{Sound, Transacts}
 use Rattle.hid.specs.Receiving.{bufferOf, buffered}
 use Rattle.hid.specs.Serving.{servedOf, Stepping, messageAfter, heardOf, stepOf}

@@ -1,5 +1,5 @@
 -- Refusals: what a `return` before the checks meets, and what is known where none refuses. Assumes nothing.
-use Prim.Native.Nat.{ℕ, _+_, _≤_, _<_}
+use Prim.Native.Nat.{ℕ, _≤_, _<_}
 use native.Mathlib.Omega.{arith}
 use mathlib.Core.Path.{_≡_, refl, sym, ap, subst, _∙_}
 use mathlib.Core.List.{List, [], _∷_}
@@ -9,8 +9,7 @@ use lib.Dec.{eqb, ltb}
 use lib.ListN.{length}
 use Rattle.ctaphid.specs.Choice.{pick, refusing}
 use Rattle.ctaphid.specs.Limits.{lastTime, packetSize}
-use Rattle.ctaphid.specs.Packets.{Packet, initialization, continuation, read, Bytes, Formed}
-use Rattle.ctaphid.proofs.Tests.{pick-known}
+use Rattle.ctaphid.specs.Packets.{Packet, read, Bytes}
 use Rattle.ctaphid.proofs.Packets.{read-formed}
 use Rattle.hid.specs.declared.CtapHid.{CtapHid}
 use Rattle.hid.specs.declared.Answer.the-variants.{Refused}
@@ -21,7 +20,7 @@ use Rattle.hid.specs.Soundness.{Sound, isSound}
 use Rattle.hid.specs.Serving.{Stepping, stepping, arriving, heardOf, Hears, Admits, refusals, refusalOf, stepOf}
 use Rattle.hid.specs.Asking.{runningOf}
 use Rattle.hid.proofs.Sound.{sound-is}
-use Rattle.hid.proofs.Hearing.{arrived, hears-later, heard-later}
+use Rattle.hid.proofs.Hearing.{hears-later, heard-later}
 
 -- ---- a list of refusals, and the first number
 pub refused-by : {A : Type 0} (f : ℕ → A) (tests : List (Bool × ℕ)) (a : A) (n : ℕ) → n ≡ refusing (λ number. number) tests 0 → (n ≡ 0 → ⊥) → f n ≡ refusing f tests a

@@ -4,14 +4,14 @@ use native.Mathlib.Omega.{arith}
 use mathlib.Core.Path.{_≡_, refl, sym, ap, _∙_}
 use mathlib.Core.List.{List, [], _∷_, _++_, append-assoc}
 use borrow.Rule.Slice.PartMut.{putMid}
-use mathlib.Core.Bool.{Bool, true, false}
+use mathlib.Core.Bool.{Bool, false}
 use borrow.Author.Tests.{le-ltb}
 use lib.Dec.{eqb}
 use lib.ListN.{length, take, set, drop, getD, length-append}
 use lib.Seq.{length-take-le, getD-take, take-length, take-at, drop-append-add, drop-drop}
 use Rattle.packet.proofs.Parts.{copied-at}
 use Rattle.ctaphid.specs.Choice.{pick}
-use Rattle.ctaphid.specs.Receiver.{Receiver, idle}
+use Rattle.ctaphid.specs.Receiver.{idle}
 use Rattle.ctaphid.specs.Transport as standard
 use Rattle.ctaphid.specs.Transport.{Transport, Lock, free, Next, next, error, isAllocated, isValid, notValid, initReply, nextChannel, withLock, withAllocated, onInit, onLock, dispatch}
 use Rattle.ctaphid.specs.Packets.{four}
@@ -31,7 +31,7 @@ use Rattle.hid.specs.declared.CtapHid.{CtapHid}
 use Rattle.hid.specs.declared.Answer.{Answer}
 use Rattle.hid.specs.declared.Answer.the-variants.{Nothing, Message, Echo, Reply}
 use Rattle.hid.specs.declared.Stepped.{Stepped}
-use Rattle.hid.specs.Meaning.{none, receiverOf, settingsOf, transportOf, assemblerOf, stateOf, answerOf, replied}
+use Rattle.hid.specs.Meaning.{none, receiverOf, settingsOf, transportOf, assemblerOf, answerOf, replied}
 use Rattle.hid.specs.Serving.{Serving, serving, servedOf, answering, locking, allocating, echoOf, Serves}
 
 -- a byte stored at the front

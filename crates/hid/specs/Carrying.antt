@@ -3,7 +3,7 @@
 use Prim.Native.Nat.{ℕ}
 use mathlib.Core.List.{List}
 use Rattle.ctaphid.specs.Receiver.{isOn}
-use Rattle.ctaphid.specs.Transport.{Settings, Event, Answer, nothing, Next, next, isLockedBy}
+use Rattle.ctaphid.specs.Transport.{Answer, nothing, Next, next, isLockedBy}
 use Rattle.ctaphid.specs.Demands.{AnyDevice}
 use Rattle.hid.specs.declared.CtapHid.{CtapHid}
 use Rattle.hid.specs.Meaning.{Said, refused, answered, transportOf}

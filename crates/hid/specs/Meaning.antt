@@ -1,7 +1,7 @@
 -- What the state's numbers mean at the standard's level, and the numbers for what stands there. The bytes that a transaction has collected are the front
 -- of the message buffer. Assumes nothing.
 use Prim.Native.Nat.{ℕ}
-use mathlib.Core.List.{List, []}
+use mathlib.Core.List.{List}
 use mathlib.Core.Bool.{Bool, cond, not, _||_}
 use lib.ListN.{length, take}
 use lib.Dec.{eqb}

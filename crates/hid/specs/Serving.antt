@@ -4,7 +4,7 @@ use mathlib.Core.Path.{_≡_}
 use mathlib.Core.List.{List, [], _∷_}
 use mathlib.Core.Bool.{Bool, not}
 use lib.ListN.{length}
-use lib.Dec.{ltb, leb, eqb}
+use lib.Dec.{ltb, eqb}
 use Rattle.ctaphid.specs.Choice.{pick, refusing}
 use Rattle.ctaphid.specs.Limits.{packetSize, largest, lastTime}
 use Rattle.ctaphid.specs.Packets.{Packet, Formed, read}

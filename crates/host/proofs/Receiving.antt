@@ -2,17 +2,17 @@
 use Prim.Native.Nat.{ℕ, _+_, _≤_, _<_}
 use native.Mathlib.Omega.{arith}
 use native.Mathlib.Decide.{decLe}
-use mathlib.Core.Path.{_≡_, refl, sym, ap, subst, _∙_}
-use mathlib.Core.List.{List, [], _++_}
+use mathlib.Core.Path.{_≡_, sym, ap, subst, _∙_}
+use mathlib.Core.List.{List, _++_}
 use mathlib.Core.Bool.{Bool, true, false, not}
 use borrow.Author.Tests.{lt-ltb, le-ltb, eq-eqb, ne-eqb}
 use lib.Dec.{eqb}
 use lib.ListN.{length, take, length-append}
 use lib.Seq.{length-take-le}
 use Rattle.ctaphid.specs.Choice.{pick}
-use Rattle.ctaphid.specs.Packets.{Packet, initialization, continuation, Formed}
+use Rattle.ctaphid.specs.Packets.{initialization, continuation, Formed}
 use Rattle.ctaphid.specs.Host as standard
-use Rattle.ctaphid.specs.Host.{Begun, none, collecting, Heard, refused, ignored, keepalive, waiting, reply, Got, got, gather, alive, begin, whenNone, whenBegun, onOwn, hear}
+use Rattle.ctaphid.specs.Host.{Begun, none, collecting, refused, ignored, keepalive, Got, got, gather, alive, begin, whenNone, whenBegun, onOwn, hear}
 use Rattle.packet.specs.Reading.{heard}
 use Rattle.packet.specs.declared.ProcessedPacket.{ProcessedPacket}
 use Rattle.packet.specs.declared.ProcessedPacket.the-variants.{InitPacket, ContinuationPacket}
@@ -21,7 +21,6 @@ use Rattle.collect.specs.declared.Added.{Added}
 use Rattle.collect.specs.declared.Added.the-variants as added-is
 use Rattle.collect.proofs.Adding.{add-waits, add-whole}
 use Rattle.host.specs.declared.Collection.{Collection}
-use Rattle.host.specs.declared.Answer.{Answer}
 use Rattle.host.specs.declared.Answer.the-variants.{Refused, Ignored, Keepalive, Waiting, Reply}
 use Rattle.host.specs.declared.Progress.{Progress}
 use Rattle.host.specs.Meaning.{begunOf, collectionMeant, noneBegun}

@@ -4,8 +4,7 @@ use native.Mathlib.Omega.{arith}
 use native.Mathlib.Decide.{decLe}
 use mathlib.Core.Path.{_≡_, refl, sym, ap, subst, _∙_}
 use mathlib.Core.List.{List, [], _∷_, _++_}
-use mathlib.Core.Bool.{Bool}
-use borrow.Author.Tests.{lt-ltb, le-ltb, eq-eqb, ne-eqb, eqb-true, eqb-false, ltb-false}
+use borrow.Author.Tests.{lt-ltb, le-ltb, ne-eqb, eqb-false, ltb-false}
 use lib.Dec.{eqb, ltb}
 use lib.ListN.{length, take, drop, length-append, length-drop}
 use lib.Seq.{length-take-le, take-at}
@@ -13,7 +12,6 @@ use Rattle.ctaphid.specs.Choice.{pick}
 use Rattle.ctaphid.specs.Limits.{largest}
 use Rattle.ctaphid.specs.Packets.{Packet, initialization, continuation, read, Formed}
 use Rattle.ctaphid.specs.Messages.{wire}
-use Rattle.ctaphid.specs.Receiver.{channelOf}
 use Rattle.ctaphid.specs.Host as standard
 use Rattle.ctaphid.specs.Host.{Begun, none, collecting, Heard, refused, ignored, keepalive, waiting, reply, Got, got, gather, alive, begin, whenNone, whenBegun, onOwn, hear, answers}
 use Rattle.ctaphid.proofs.Tests.{pick-known}
@@ -23,8 +21,8 @@ use Rattle.collect.specs.Adding.{front}
 use Rattle.collect.specs.Standing.{Stands}
 use Rattle.host.specs.declared.Collection.{Collection}
 use Rattle.host.specs.Meaning.{begunOf, collectionMeant, noneBegun, collectionOf, Sound}
-use Rattle.host.specs.Reading.{Reading, reading, keeping, bufferOf, heardOf, readOf}
-use Rattle.host.specs.Refining.{Refines, Comes, Come, ReadRefines, SoundStays, LengthStays, NewSound, runOf, RunsAlike, ReadsBack}
+use Rattle.host.specs.Reading.{Reading, heardOf, readOf}
+use Rattle.host.specs.Refining.{Refines, Comes, ReadRefines, SoundStays, LengthStays, NewSound, RunsAlike, ReadsBack}
 use Rattle.host.proofs.Sound.{is-sound}
 use Rattle.host.proofs.Refusing.{read-heard}
 

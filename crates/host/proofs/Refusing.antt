@@ -8,7 +8,6 @@ use lib.ListN.{length}
 use Rattle.ctaphid.specs.Choice.{pick}
 use Rattle.ctaphid.specs.Limits.{packetSize}
 use Rattle.ctaphid.specs.Packets.{Packet, read, Bytes}
-use Rattle.ctaphid.specs.Host as standard
 use Rattle.ctaphid.specs.Host.{hear}
 use Rattle.ctaphid.proofs.Packets.{read-formed}
 use Rattle.host.specs.declared.Collection.{Collection}

@@ -5,7 +5,7 @@ use mathlib.Core.List.{List, [], _∷_}
 use mathlib.Core.Bool.{not}
 use lib.ListN.{length}
 use lib.Dec.{eqb}
-use Rattle.ctaphid.specs.Choice.{pick, refusing}
+use Rattle.ctaphid.specs.Choice.{refusing}
 use Rattle.ctaphid.specs.Limits.{packetSize}
 use Rattle.ctaphid.specs.Packets.{Packet, Formed, read}
 use Rattle.ctaphid.specs.Host as standard

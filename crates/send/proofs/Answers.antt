@@ -1,16 +1,15 @@
 -- What `writeOf` and `splitOf` give, by their tests. Assumes nothing.
-use Prim.Native.Nat.{ℕ, suc, _+_, _*_, _/_, _≤_, _<_}
+use Prim.Native.Nat.{ℕ, _+_, _/_, _≤_, _<_}
 use native.Mathlib.Omega.{arith}
 use native.Mathlib.Decide.{decLe, ℕ-discrete}
-use mathlib.Core.Path.{_≡_, ap, _∙_}
+use mathlib.Core.Path.{_≡_}
 use mathlib.Core.List.{List, [], _∷_}
 use borrow.Author.Tests.{eq-eqb, ne-eqb, lt-ltb, le-ltb, le-leb, lt-leb}
-use lib.ListN.{length, take, drop, getD}
+use lib.ListN.{length, getD}
 use Rattle.ctaphid.specs.Choice.{pick}
-use Rattle.ctaphid.specs.Packets.{initialization, continuation, written}
-use Rattle.ctaphid.specs.Messages.{padded, wire, splitWire}
+use Rattle.ctaphid.specs.Messages.{wire, splitWire}
 use Rattle.ctaphid.specs.Commands.{CBOR, number}
-use Rattle.ctaphid.proofs.Messages.{wire-length, wire-first, wire-later}
+use Rattle.ctaphid.proofs.Messages.{wire-length}
 use Rattle.send.specs.Sending.{Left, left, writeOf, splitOf}
 use Rattle.send.specs.declared.Written.the-variants.{Packet, Refused}
 

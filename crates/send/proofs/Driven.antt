@@ -1,17 +1,16 @@
 -- A sender driven to its end has written its message's packets, in order, each once. Assumes nothing.
-use Prim.Native.Nat.{ℕ, suc, _+_, _/_, _≤_, _<_}
+use Prim.Native.Nat.{ℕ, _+_, _≤_}
 use native.Mathlib.Omega.{arith}
 use native.Mathlib.Numerals.{add-one}
-use mathlib.Core.Path.{_≡_, refl, sym, ap, _∙_}
+use mathlib.Core.Path.{_≡_, refl, ap, _∙_}
 use mathlib.Core.List.{List, [], _∷_, _++_, map}
 use lib.ListN.{length, getD, drop, drop-of-length-le}
 use lib.Seq.{drop-cons}
 use denote.Ref.{RefT, now}
 use Rattle.ctaphid.specs.Messages.{wire}
 use Rattle.ctaphid.proofs.Messages.{wire-length}
-use Rattle.send.specs.Sender.{Sent, sent, sentOf, placed, calls, Each64, packetWritten, nothingWritten, SendsAll}
+use Rattle.send.specs.Sender.{Sent, calls, Each64, packetWritten, nothingWritten, SendsAll}
 use Rattle.send.specs.declared.sender.Next.{Next}
-use Rattle.send.specs.declared.sender.Next.the-variants.{Packet, NoneLeft}
 use Rattle.send.specs.declared.sender.Sender.{Sender}
 use Rattle.send.proofs.Sending.{more, none-6, sent-more, sent-none}
 
