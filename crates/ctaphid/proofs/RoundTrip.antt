@@ -19,7 +19,7 @@ use Rattle.ctaphid.proofs.Splitting.{padded-full, later-length}
 use Rattle.ctaphid.proofs.Messages.{continuations-length}
 
 -- ---- data fields
-padded-length : (size : ℕ) (chunk : List ℕ) → length chunk ≤ size → length (padded size chunk) ≡ size
+pub padded-length : (size : ℕ) (chunk : List ℕ) → length chunk ≤ size → length (padded size chunk) ≡ size
 unfolding padded
 padded-length size chunk h = simp (length-append, length-replicate) (omega arith)
 
@@ -28,7 +28,7 @@ padded-front : (size : ℕ) (chunk : List ℕ) → take (length chunk) (padded s
 unfolding padded
 padded-front size chunk = take-append-seam chunk _
 
-later-none : (g most : ℕ) → later g most [] ≡ []
+pub later-none : (g most : ℕ) → later g most [] ≡ []
 unfolding later
 later-none g zero = refl
 later-none g (suc most) = refl

@@ -120,7 +120,7 @@ initFieldsOf payload =
       flags = byte payload 16;
     }
 
--- refusal 11: no reply to INIT, or not of exactly 17 bytes
+-- refusal 11: no reply to INIT, or not of exactly 17 bytes (DIFFERENCES 26)
 unfoldable pub initOf : (command : ℕ) → List ℕ → InitHeard
 initOf cmd payload =
     refusing notInit

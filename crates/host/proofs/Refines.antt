@@ -25,6 +25,7 @@ use Rattle.host.specs.Reading.{Reading, heardOf, readOf}
 use Rattle.host.specs.Refining.{Refines, Comes, ReadRefines, SoundStays, LengthStays, NewSound, RunsAlike, ReadsBack}
 use Rattle.host.proofs.Sound.{is-sound}
 use Rattle.host.proofs.Refusing.{read-heard}
+use Rattle.host.proofs.Wire.{come-wire}
 
 -- ---- what the standard's host keeps: lengths and number of a reply that is begun stand
 abbrev Good : (space : ℕ) → standard.Collection → Type 0
@@ -194,6 +195,6 @@ runs-alike s c m (p ∷ rest) h k =
     ∙ (λ i. hear c (length m) (collectionMeant s m) (read p) .answer ∷ answers c (n i) (r .collection i) rest)
 
 pub reads-back : ReadsBack
-reads-back c cmd payload m can come =
-    runs-alike noneBegun c m (wire c cmd payload) (none-sound (length m)) come
+reads-back c cmd payload m can bytes =
+    runs-alike noneBegun c m (wire c cmd payload) (none-sound (length m)) (come-wire c cmd payload (length m) can bytes)
     ∙ (ap (λ (t : standard.Collection). answers c (length m) t (wire c cmd payload)) (none-meant m) ∙ round-trips c cmd payload (length m) can .given-back)

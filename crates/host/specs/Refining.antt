@@ -56,8 +56,8 @@ RunsAlike =
     (s : Collection) (c : ℕ) (m : List ℕ) (ps : List (List ℕ)) → Sound s (length m) → Come ps
     → runOf s c m ps ≡ answers c (length m) (collectionMeant s m) ps
 
--- the round trip over the code: a message's packets, read with none begun, give it back. A payload is a list of bytes
+-- the round trip over the code: a message's packets, read with none begun, give it back
 abbrev pub ReadsBack : Type 0
 ReadsBack =
-    (c cmd : ℕ) (payload m : List ℕ) → Sendable c cmd payload (length m) → Come (wire c cmd payload)
+    (c cmd : ℕ) (payload m : List ℕ) → Sendable c cmd payload (length m) → Bytes payload
     → runOf noneBegun c m (wire c cmd payload) ≡ atLast (reply cmd payload) (wire c cmd payload)
