@@ -11,7 +11,7 @@ use Rattle.ctaphid.specs.Commands.{INIT, KEEPALIVE, number}
 use Rattle.ctaphid.specs.Limits.{largest}
 use Rattle.ctaphid.specs.Packets.{Packet, initialization, continuation, byte, channelIn, read}
 use Rattle.ctaphid.specs.Messages.{wire}
-use Rattle.ctaphid.specs.Receiver.{channelOf}
+use Rattle.ctaphid.specs.Receiver.{channelOf, putTogether}
 
 -- a reply that is begun: what its initialization packet said, the bytes collected so far, and the sequence number that is due
 pub record Begun : Type 0 where
@@ -45,9 +45,9 @@ got s a = record { collection = s; answer = a }
 -- §11.2.5.4: data fields are put together until all is there. Then the reply is handed out, and none is begun
 unfoldable pub gather : Begun → List ℕ → Got
 gather b field =
-    pick (ltb (length (b .collected ++ field)) (b .declared))
+    putTogether (b .declared) (b .collected ++ field)
     (got (collecting (record { command = b .command; declared = b .declared; collected = b .collected ++ field; due = b .due })) waiting)
-    (got none (reply (b .command) (take (b .declared) (b .collected ++ field))))
+    (λ payload. got none (reply (b .command) payload))
 
 -- §11.2.9.1.7: a KEEPALIVE has one byte. It comes between request and response (§11.2.4), and is no part of a reply
 unfoldable pub alive : (declared : ℕ) → List ℕ → Got

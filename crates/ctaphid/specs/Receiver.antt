@@ -41,10 +41,14 @@ abbrev pub channelOf : Packet → ℕ
 channelOf (initialization c cmd n field) = c
 channelOf (continuation c k field) = c
 
--- §11.2.5.4: data fields are put together until all is there, which is as much as was declared. Until then nothing is said
+-- §11.2.5.4: data fields are put together until all is there, which is as much as was declared. For the device and the host alike
+abbrev pub putTogether : {A : Type 0} → (declared : ℕ) → (bytes : List ℕ) → (more : A) → (all : List ℕ → A) → A
+putTogether declared bytes more all = pick (ltb (length bytes) declared) more (all (take declared bytes))
+
+-- until all is there nothing is said
 unfoldable pub collect : Transaction → List ℕ → Turn
 collect t field =
-    pick (ltb (length (t .collected ++ field)) (t .declared))
+    putTogether (t .declared) (t .collected ++ field)
     (turn (busy (record {
       channel = t .channel;
       command = t .command;
@@ -53,7 +57,7 @@ collect t field =
       due = t .due;
       deadline = t .deadline;
     })) silent)
-    (turn idle (whole (t .channel) (t .command) (take (t .declared) (t .collected ++ field))))
+    (λ payload. turn idle (whole (t .channel) (t .command) payload))
 
 -- §11.2.4: an initialization packet starts a transaction, and the first sequence number is 0. A declared length above the maximum is an error (DIFFERENCES 6)
 unfoldable pub start : (maximum time channel command declared : ℕ) → List ℕ → Turn
