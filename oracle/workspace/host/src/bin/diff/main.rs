@@ -1,9 +1,12 @@
 //! Runs OpenSK's transport and ours on the same packets and compares them after every step.
 //!   diff [--seed N] [--steps N] [--depth N] [--fault NAME] [--answers]
+//!   diff [--seed N] (--lines N | --runs N)
 //! --depth N runs all sequences of up to N letters; --steps N runs N random steps. --fault plants a
 //! fault in a stand-in for our library; --answers leaves states and buffers uncompared. Exits with 1
 //! where the two differ, after the shortest run that it can find.
+//! --lines N and --runs N print N lines of such traffic instead, for bench.rs and crates/replay.
 mod definition;
+mod inputs;
 mod ours;
 mod pair;
 mod traffic;
@@ -32,6 +35,8 @@ fn main() {
     let mut depth = 0;
     let mut fault = "";
     let mut answers_only = false;
+    let mut lines = 0;
+    let mut runs = 0;
     let mut args = std::env::args().skip(1);
     while let Some(arg) = args.next() {
         let mut number = || args.next().and_then(|n| n.parse().ok());
@@ -40,6 +45,8 @@ fn main() {
             "--steps" => steps = number().unwrap_or_else(|| usage()),
             "--depth" => depth = number().unwrap_or_else(|| usage()) as u32,
             "--answers" => answers_only = true,
+            "--lines" => lines = number().unwrap_or_else(|| usage()),
+            "--runs" => runs = number().unwrap_or_else(|| usage()),
             "--fault" => {
                 let name = args.next().unwrap_or_else(|| usage());
                 let found = FAULTS.iter().chain(&["none"]).find(|f| **f == name);
@@ -57,6 +64,12 @@ fn main() {
         kinds: [0; 4],
         errors: [0; 12],
     };
+    if lines + runs > 0 {
+        inputs::bench(&driver, lines)
+            .and_then(|()| inputs::runs(&driver, runs))
+            .expect("written");
+        return;
+    }
     let messages = driver.senders_and_readers();
     let sequences = driver.exhaustive(depth);
     let exhaustive = driver.done;
@@ -76,6 +89,7 @@ fn main() {
 
 fn usage() -> ! {
     eprintln!("usage: diff [--seed N] [--steps N] [--depth N] [--fault NAME] [--answers]");
+    eprintln!("       diff [--seed N] (--lines N | --runs N)");
     eprintln!("faults: none {}", FAULTS.join(" "));
     exit(2)
 }
