@@ -1,0 +1,3 @@
+pub mod Hex
+pub mod Digits
+pub mod Lines

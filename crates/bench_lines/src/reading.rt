@@ -7,7 +7,7 @@ ghost use Prim.Native.Nat.{_≤_};
 ghost use lib.ListN.{length, getD};
 ghost use Rattle.ctaphid.specs.Messages.{padded};
 ghost use Rattle.bench_lines.specs.Hex.{isDigit, isHexDigit, hexValue, allHex, bytesOf};
-ghost use Rattle.bench_lines.specs.Lines.{numberOf, digitsIn, isFlag, isHex, isFormed, inputOf, read, readTo, readLineOf};
+ghost use Rattle.bench_lines.specs.Lines.{Decimal, numberOf, digitsIn, isFlag, isHex, isFormed, inputOf, read, readTo, readLineOf};
 
 // Reads a line, without its newline. The packet gets the line's bytes, and zeros up to 64; a line that has no reading leaves it as it was.
 // A packet slice that isn't 64 bytes is refused with 1.
@@ -126,7 +126,7 @@ fn take_input(line: &[u8], digits: usize, packet: &mut [u8]) -> Line
 
 // The number that up to 15 digits say.
 fn number(digits: &[u8]) -> u64
-    requires { ⌜ (length (now digits) ≤ 15) × (digitsIn (now digits) ≡ length (now digits)) ⌝ }
+    requires { ⌜ (length (now digits) ≤ 15) × Decimal (now digits) ⌝ }
     ensures { λ r. ⌜ r ≡ numberOf (now (digits .entry)) ⌝ }
 {
     let mut value: u64 = 0;

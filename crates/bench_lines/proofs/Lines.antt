@@ -1,0 +1,143 @@
+-- What a line reads as is what is written there. Assumes nothing.
+use Prim.Native.Nat.{ℕ, suc, _+_, _-_, _*_, _%_, _≤_, _<_}
+use native.Mathlib.Omega.{arith}
+use native.Mathlib.Numerals.{add-one}
+use mathlib.Core.Path.{_≡_, refl, sym, ap, _∙_}
+use mathlib.Core.Bool.{Bool, true, false, true≢false}
+use mathlib.Core.List.{List, [], _∷_, _++_}
+use borrow.Author.Tests.{le-leb, leb-true, eq-eqb, ne-eqb, eqb-true}
+use lib.Dec.{leb, eqb}
+use lib.ListN.{length, take, drop, getD, length-append, take-append-drop}
+use lib.Seq.{length-take-le, drop-cons, take-at, drop-at, getD-at, getD-append-add, drop-append-add}
+use Rattle.ctaphid.specs.Choice.{pick}
+use Rattle.ctaphid.specs.Packets.{Bytes}
+use Rattle.ctaphid.proofs.Tests.{pick-true}
+use Rattle.bench_lines.specs.Hex.{'0', '1', space, hexOf, allHex, bytesOf}
+use Rattle.bench_lines.specs.Lines.{Input, Decimal, numberOf, flagOf, Written, Reading, reads, unread, digitsIn, isFlag, isHex, isFormed, inputOf, lineOf, ReadsAsWritten, OneReading}
+use Rattle.bench_lines.proofs.Hex.{by-bool, picked, passed, length-hex, hex-all, hex-read, read-length, read-bytes, read-hex}
+use Rattle.bench_lines.proofs.Digits.{in-line, in-front, before-space}
+
+-- ---- the tests, as facts
+
+flag-of : (c : ℕ) → isFlag c ≡ true → flagOf (eqb c '1') ≡ c
+unfolding isFlag
+flag-of c e =
+    by-bool (eqb c '0')
+    (λ z. let zero : c ≡ '0' = eqb-true c '0' z in rw (zero) refl)
+    (λ z. let one : eqb c '1' ≡ true = sym (passed _ _ z) ∙ e in rw one (sym (eqb-true c '1' one)))
+
+flag-is : (b : Bool) → isFlag (flagOf b) ≡ true
+unfolding isFlag pick
+flag-is true = refl
+flag-is false = refl
+
+flag-told : (b : Bool) → eqb (flagOf b) '1' ≡ b
+flag-told true = refl
+flag-told false = refl
+
+pub record HexFacts (hex : List ℕ) : Type 0 where
+  pub some : 2 ≤ length hex
+  pub most : length hex ≤ 128
+  pub even : length hex % 2 ≡ 0
+  pub all : allHex hex ≡ true
+
+pub hex-is : (hex : List ℕ) → isHex hex ≡ true → HexFacts hex
+unfolding isHex
+hex-is hex e =
+    let p₁ = pick-true (leb 2 (length hex)) _ e in
+    let p₂ = pick-true (leb (length hex) 128) _ (p₁ .1) in
+    let p₃ = pick-true (eqb (length hex % 2) 0) _ (p₂ .1) in
+    record {
+      some = leb-true 2 (length hex) (p₁ .0);
+      most = leb-true (length hex) 128 (p₂ .0);
+      even = eqb-true (length hex % 2) 0 (p₃ .0);
+      all = p₃ .1;
+    }
+
+is-hex : (hex : List ℕ) → HexFacts hex → isHex hex ≡ true
+unfolding isHex pick
+is-hex hex h = simp (le-leb 2 (length hex) (h .some), le-leb (length hex) 128 (h .most), eq-eqb (length hex % 2) 0 (h .even), h .all)
+
+pub record FormFacts (l : List ℕ) (n : ℕ) : Type 0 where
+  pub some : 1 ≤ n
+  pub most : n ≤ 15
+  pub long : n + 3 ≤ length l
+  pub before : getD l n 0 ≡ space
+  pub flag : isFlag (getD l (n + 1) 0) ≡ true
+  pub after : getD l (n + 2) 0 ≡ space
+  pub hex : isHex (drop (n + 3) l) ≡ true
+
+module _ (l : List ℕ) (n : ℕ) where
+  pub form-is : isFormed l n ≡ true → FormFacts l n
+  unfolding isFormed
+  form-is e =
+      let p₁ = pick-true (leb 1 n) _ e in
+      let p₂ = pick-true (leb n 15) _ (p₁ .1) in
+      let p₃ = pick-true (leb (n + 3) (length l)) _ (p₂ .1) in
+      let p₄ = pick-true (eqb (getD l n 0) space) _ (p₃ .1) in
+      let p₅ = pick-true (isFlag (getD l (n + 1) 0)) _ (p₄ .1) in
+      let p₆ = pick-true (eqb (getD l (n + 2) 0) space) _ (p₅ .1) in
+      record {
+        some = leb-true 1 n (p₁ .0);
+        most = leb-true n 15 (p₂ .0);
+        long = leb-true (n + 3) (length l) (p₃ .0);
+        before = eqb-true (getD l n 0) space (p₄ .0);
+        flag = p₅ .0;
+        after = eqb-true (getD l (n + 2) 0) space (p₆ .0);
+        hex = p₆ .1;
+      }
+
+  is-formed : FormFacts l n → isFormed l n ≡ true
+  unfolding isFormed pick
+  is-formed f =
+      simp
+      (le-leb 1 n (f .some),
+      le-leb n 15 (f .most),
+      le-leb (n + 3) (length l) (f .long),
+      eq-eqb (getD l n 0) space (f .before),
+      f .flag,
+      eq-eqb (getD l (n + 2) 0) space (f .after),
+      f .hex)
+
+  -- ---- what reads was written so
+
+  -- a line, cut after its digits
+  three-more : n + 3 ≤ length l → drop n l ≡ getD l n 0 ∷ (getD l (n + 1) 0 ∷ (getD l (n + 2) 0 ∷ drop (n + 3) l))
+  three-more h =
+      let a : n + 1 ≡ suc n = omega arith in
+      let b : n + 2 ≡ suc (suc n) = omega arith in
+      let c : n + 3 ≡ suc (suc (suc n)) = omega arith in
+      rw (a, b, c)
+      (drop-cons l n 0 (omega arith)
+      ∙ ap (λ (t : List ℕ). getD l n 0 ∷ t)
+      (drop-cons l (suc n) 0 (omega arith)
+      ∙ ap (λ (t : List ℕ). getD l (suc n) 0 ∷ t) (drop-cons l (suc (suc n)) 0 (omega arith))))
+
+  formed-written : Decimal (take n l) → FormFacts l n → Written l (inputOf l n)
+  unfolding inputOf
+  formed-written d f =
+      let h = hex-is (drop (n + 3) l) (f .hex) in
+      let back : hexOf (bytesOf (drop (n + 3) l)) ≡ drop (n + 3) l = read-hex _ (h .even) (h .all) in
+      let size : 2 * length (bytesOf (drop (n + 3) l)) ≡ length (drop (n + 3) l) = read-length _ (h .even) in
+      let long : length (take n l) ≡ n = length-take-le n l (omega (arith, f .long)) in
+      record {
+        digits = take n l;
+        some-digits = rw long (f .some);
+        most-digits = rw long (f .most);
+        decimal = d;
+        time = refl;
+        some-bytes = omega (arith, h .some);
+        most-bytes = omega (arith, h .most);
+        bytes = read-bytes _ (h .all);
+        line =
+            sym (take-append-drop n l)
+            ∙ ap (λ (t : List ℕ). take n l ++ t)
+            (three-more (f .long)
+            ∙ (λ i. f .before i ∷ (sym (flag-of _ (f .flag)) i ∷ (f .after i ∷ sym back i))));
+      }
+
+-- ---- what was written so reads
+
+module _ (digits hex : List ℕ) (flag : ℕ) (d : Decimal digits) where
+  whole : List ℕ
+  whole = digits ++ (space ∷ (flag ∷ (space ∷ hex)))
