@@ -2,12 +2,14 @@
 use Prim.Native.Nat.{ℕ, zero, suc, _+_, _-_, _*_, _/_, _%_, _≤_, _<_}
 use native.Mathlib.Omega.{arith}
 use native.Mathlib.Decide.{decLt}
+use native.Mathlib.Numerals.{add-one}
 use mathlib.Core.Path.{_≡_, refl, sym, ap, _∙_}
 use mathlib.Core.Bool.{Bool, true, false}
 use mathlib.Core.List.{List, [], _∷_, _++_}
 use borrow.Author.Tests.{lt-ltb, le-ltb, le-leb, lt-leb, leb-true}
 use lib.Dec.{leb}
-use lib.ListN.{length, getD, replicate}
+use lib.ListN.{length, take, getD, set, replicate, length-append, length-replicate}
+use lib.Seq.{take-suc, take-suc-set}
 use Rattle.ctaphid.specs.Choice.{pick}
 use Rattle.ctaphid.specs.Messages.{padded}
 use Rattle.ctaphid.specs.Packets.{Bytes}
@@ -202,3 +204,14 @@ padding-at (b ∷ bytes) n (suc i) = padding-at bytes n i
 pub padded-at : (size : ℕ) (bytes : List ℕ) (i : ℕ) → getD (padded size bytes) i 0 ≡ getD bytes i 0
 unfolding padded
 padded-at size bytes i = padding-at bytes (size - length bytes) i
+
+pub padded-length : (size : ℕ) (bytes : List ℕ) → length bytes ≤ size → length (padded size bytes) ≡ size
+unfolding padded
+padded-length size bytes h = simp (length-append, length-replicate) (omega arith)
+
+-- a store of what belongs at a place makes the front one longer
+pub front-more : (target l : List ℕ) (i b : ℕ) → i < length target → i < length l → take i l ≡ take i target → b ≡ getD target i 0 → take (i + 1) (set l i b) ≡ take (i + 1) target
+front-more target l i b h k front e =
+    let here : take (suc i) (set l i b) ≡ take i l ++ (b ∷ []) = take-suc-set l i b k in
+    let there : take (suc i) target ≡ take i target ++ (getD target i 0 ∷ []) = take-suc target i 0 h in
+    rw add-one (here ∙ ((λ j. front j ++ (e j ∷ [])) ∙ sym there))

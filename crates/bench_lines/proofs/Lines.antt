@@ -2,13 +2,13 @@
 use Prim.Native.Nat.{ℕ, suc, _+_, _-_, _*_, _%_, _≤_, _<_}
 use native.Mathlib.Omega.{arith}
 use native.Mathlib.Numerals.{add-one}
-use mathlib.Core.Path.{_≡_, refl, sym, ap, _∙_}
+use mathlib.Core.Path.{_≡_, refl, sym, ap, subst, _∙_}
 use mathlib.Core.Bool.{Bool, true, false, true≢false}
 use mathlib.Core.List.{List, [], _∷_, _++_}
 use borrow.Author.Tests.{le-leb, leb-true, eq-eqb, ne-eqb, eqb-true}
 use lib.Dec.{leb, eqb}
 use lib.ListN.{length, take, drop, getD, length-append, take-append-drop}
-use lib.Seq.{length-take-le, drop-cons, take-at, drop-at, getD-at, getD-append-add, drop-append-add}
+use lib.Seq.{length-take-le, drop-cons, take-append-seam, getD-append-seam, getD-append-add, drop-append-add}
 use Rattle.ctaphid.specs.Choice.{pick}
 use Rattle.ctaphid.specs.Packets.{Bytes}
 use Rattle.ctaphid.proofs.Tests.{pick-true}
@@ -117,8 +117,8 @@ module _ (l : List ℕ) (n : ℕ) where
   unfolding inputOf
   formed-written d f =
       let h = hex-is (drop (n + 3) l) (f .hex) in
-      let back : hexOf (bytesOf (drop (n + 3) l)) ≡ drop (n + 3) l = read-hex _ (h .even) (h .all) in
-      let size : 2 * length (bytesOf (drop (n + 3) l)) ≡ length (drop (n + 3) l) = read-length _ (h .even) in
+      let back : hexOf (bytesOf (drop (n + 3) l)) ≡ drop (n + 3) l = read-hex (drop (n + 3) l) (h .even) (h .all) in
+      let size : 2 * length (bytesOf (drop (n + 3) l)) ≡ length (drop (n + 3) l) = read-length (drop (n + 3) l) (h .even) in
       let long : length (take n l) ≡ n = length-take-le n l (omega (arith, f .long)) in
       record {
         digits = take n l;
@@ -128,7 +128,7 @@ module _ (l : List ℕ) (n : ℕ) where
         time = refl;
         some-bytes = omega (arith, h .some);
         most-bytes = omega (arith, h .most);
-        bytes = read-bytes _ (h .all);
+        bytes = read-bytes (drop (n + 3) l) (h .all);
         line =
             sym (take-append-drop n l)
             ∙ ap (λ (t : List ℕ). take n l ++ t)
@@ -138,6 +138,89 @@ module _ (l : List ℕ) (n : ℕ) where
 
 -- ---- what was written so reads
 
-module _ (digits hex : List ℕ) (flag : ℕ) (d : Decimal digits) where
-  whole : List ℕ
-  whole = digits ++ (space ∷ (flag ∷ (space ∷ hex)))
+module _ (digits : List ℕ) (flag : ℕ) (hex : List ℕ) where
+  abbrev rest : List ℕ
+  rest = space ∷ (flag ∷ (space ∷ hex))
+
+  rest-at : (k : ℕ) → getD (digits ++ rest) (length digits + k) 0 ≡ getD rest k 0
+  rest-at k = getD-append-add digits rest k 0
+
+  hex-there : drop (length digits + 3) (digits ++ rest) ≡ hex
+  hex-there = drop-append-add digits rest 3
+
+  written-formed : 1 ≤ length digits → length digits ≤ 15 → isFlag flag ≡ true → HexFacts hex → FormFacts (digits ++ rest) (length digits)
+  written-formed some most f h = record {
+    some = some;
+    most = most;
+    long = omega (arith, length-append digits rest);
+    before = getD-append-seam digits space (flag ∷ (space ∷ hex)) 0;
+    flag = rw (rest-at 1) f;
+    after = rest-at 2;
+    hex = rw hex-there (is-hex hex h);
+  }
+
+  written-input : inputOf (digits ++ rest) (length digits) ≡ record { time = numberOf digits; disabled = eqb flag '1'; bytes = bytesOf hex }
+  unfolding inputOf
+  written-input = λ i. record {
+    time = numberOf (take-append-seam digits rest i);
+    disabled = eqb (rest-at 1 i) '1';
+    bytes = bytesOf (hex-there i);
+  }
+
+formed-reads : (l : List ℕ) → FormFacts l (digitsIn l) → lineOf l ≡ reads (inputOf l (digitsIn l))
+unfolding lineOf
+formed-reads l f = picked _ _ (is-formed l (digitsIn l) f)
+
+written-reads : (l : List ℕ) (i : Input) → Written l i → lineOf l ≡ reads i
+written-reads l i w =
+    let bytes = i .bytes in
+    let flag = flagOf (i .disabled) in
+    let all : List ℕ = w .digits ++ (space ∷ (flag ∷ (space ∷ hexOf bytes))) in
+    let size : length (hexOf bytes) ≡ 2 * length bytes = length-hex bytes in
+    let hex : HexFacts (hexOf bytes) = record {
+      some = omega (arith, w .some-bytes);
+      most = omega (arith, w .most-bytes);
+      even = omega arith;
+      all = hex-all bytes (w .bytes);
+    } in
+    let count : digitsIn all ≡ length (w .digits) = before-space (w .digits) (flag ∷ (space ∷ hexOf bytes)) (w .decimal) in
+    let formed : FormFacts all (digitsIn all) =
+    rw count (written-formed (w .digits) flag (hexOf bytes) (w .some-digits) (w .most-digits) (flag-is (i .disabled)) hex) in
+    let input : inputOf all (length (w .digits)) ≡ i =
+    written-input (w .digits) flag (hexOf bytes)
+    ∙ (λ k. record { time = sym (w .time) k; disabled = flag-told (i .disabled) k; bytes = hex-read bytes (w .bytes) k }) in
+    ap lineOf (w .line) ∙ (formed-reads all formed ∙ ap reads (ap (inputOf all) count ∙ input))
+
+-- ---- both ways
+
+reads-not-unread : (i : Input) → reads i ≡ unread → ⊥
+reads-not-unread i e = let z : _≡_ {A = ℕ} 0 1 = cc in omega arith
+
+same-reading : (i j : Input) → reads i ≡ reads j → i ≡ j
+same-reading i j e = cc
+
+reads-written : (l : List ℕ) (i : Input) → lineOf l ≡ reads i → Written l i
+unfolding lineOf
+reads-written l i e =
+    by-bool (isFormed l (digitsIn l))
+    (λ f.
+    let same : inputOf l (digitsIn l) ≡ i = same-reading _ _ (sym (picked _ _ f) ∙ e) in
+    subst (λ (j : Input). Written l j) same (formed-written l (digitsIn l) (in-front l) (form-is l (digitsIn l) f)))
+    (λ f. absurd (reads-not-unread i (sym e ∙ passed _ _ f)))
+
+pub reads-as-written : ReadsAsWritten
+reads-as-written = record { sound = reads-written; complete = written-reads }
+
+pub one-reading : OneReading
+one-reading = record {
+  one = λ l i j v w. same-reading i j (sym (written-reads l i v) ∙ written-reads l j w);
+  none = λ l e i w. reads-not-unread i (sym (written-reads l i w) ∙ e);
+  only = unwritten;
+}
+  where
+    by-reading : (l : List ℕ) (r : Reading) → lineOf l ≡ r → ((i : Input) → Written l i → ⊥) → lineOf l ≡ unread
+    by-reading l (reads i) e no-input = absurd (no-input i (reads-written l i e))
+    by-reading l unread e no-input = e
+
+    unwritten : (l : List ℕ) → ((i : Input) → Written l i → ⊥) → lineOf l ≡ unread
+    unwritten l no-input = by-reading l (lineOf l) refl no-input

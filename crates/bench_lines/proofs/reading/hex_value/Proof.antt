@@ -1,33 +1,28 @@
+-- `hex_value` meets its contract. Assumes nothing.
+use native.Mathlib.Omega.{arith}
+use mathlib.Core.Path.{sym, _∙_}
+use Rattle.bench_lines.proofs.Hex.{digit-is, letter-is, digit-value, letter-value}
 use borrow.Author.Needs.{needs}
 use Rattle.bench_lines.proofs.reading.hex_value.Statement.{statement}
 use Rattle.bench_lines.proofs.reading.hex_value.Tie as tie
-use Rattle.bench_lines.proofs.reading.hex_value.Reads as reads
-use Rattle.bench_lines.proofs.reading.hex_value.Lts as lts
-use Rattle.bench_lines.proofs.reading.is_digit.Reads as is-digit-reads
 
--- src/reading.rt:198:8
 is-digit-requires : tie.Need-is-digit-requires
 is-digit-requires c κs = search needs
 
--- src/reading.rt:199:16
 sub-result : tie.Need-sub-result
-sub-result c = ?
+sub-result c = omega (arith, digit-is _ (sym (c .before .is-digit .ensures) ∙ c .if1 .taken))
 
--- src/reading.rt:199:9
 returns : tie.Need-returns
-returns c = ?
+returns c = sym (digit-value _ (sym (c .before .is-digit .ensures) ∙ c .if1 .taken))
 
--- src/reading.rt:201:5
 sub-result-2 : tie.Need-sub-result-2
-sub-result-2 c = ?
+sub-result-2 c = omega (arith, letter-is _ (sym (c .before .is-digit .ensures) ∙ c .if1 .left) (c .before .before .pre))
 
--- src/reading.rt:201:5
 add-result : tie.Need-add-result
 add-result c = search needs
 
--- src/reading.rt:194:1
 returns-2 : tie.Need-returns-2
-returns-2 c = ?
+returns-2 c = sym (letter-value _ (sym (c .before .is-digit .ensures) ∙ c .if1 .left))
 
 pub hex-value-spec : {M : Type 1} → statement M
 hex-value-spec =
