@@ -13,7 +13,8 @@ use Rattle.ctaphid.specs.Choice.{pick}
 use Rattle.ctaphid.specs.Packets.{Bytes}
 use Rattle.ctaphid.proofs.Tests.{pick-true}
 use Rattle.bench_lines.specs.Hex.{'0', '1', space, hexOf, allHex, bytesOf}
-use Rattle.bench_lines.specs.Lines.{Input, Decimal, numberOf, flagOf, Written, Reading, reads, unread, digitsIn, isFlag, isHex, isFormed, inputOf, lineOf, ReadsAsWritten, OneReading}
+use Rattle.bench_lines.specs.Lines.{Input, Decimal, numberOf, flagOf, Written, Reading, reads, unread, digitsIn, isFlag, isHex, isFormed, inputOf, lineOf, ReadsAsWritten, OneReading, read, readTo, readLineOf}
+use Rattle.bench_lines.specs.declared.Line.the-variants as line
 use Rattle.bench_lines.proofs.Hex.{by-bool, picked, passed, length-hex, hex-all, hex-read, read-length, read-bytes, read-hex}
 use Rattle.bench_lines.proofs.Digits.{in-line, in-front, before-space}
 
@@ -224,3 +225,18 @@ one-reading = record {
 
     unwritten : (l : List ℕ) → ((i : Input) → Written l i → ⊥) → lineOf l ≡ unread
     unwritten l no-input = by-reading l (lineOf l) refl no-input
+
+-- ---- what a call leaves
+
+module _ (l p : List ℕ) where
+  pub left-refused : (length p ≡ 64 → ⊥) → readLineOf l p ≡ read (line.Refused 1) p
+  unfolding readLineOf pick
+  left-refused size = simp (ne-eqb (length p) 64 size)
+
+  pub left-read : length p ≡ 64 → isFormed l (digitsIn l) ≡ true → readLineOf l p ≡ readTo (inputOf l (digitsIn l))
+  unfolding readLineOf lineOf pick
+  left-read size f = simp (eq-eqb (length p) 64 size, f)
+
+  pub left-unread : length p ≡ 64 → isFormed l (digitsIn l) ≡ false → readLineOf l p ≡ read line.Unread p
+  unfolding readLineOf lineOf pick
+  left-unread size f = simp (eq-eqb (length p) 64 size, f)

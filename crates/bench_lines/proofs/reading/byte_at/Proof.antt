@@ -1,49 +1,45 @@
+-- `byte_at` meets its contract. Assumes nothing.
+use Prim.Native.Nat.{_+_, _*_}
+use native.Mathlib.Omega.{arith}
+use mathlib.Core.Path.{sym}
+use Rattle.bench_lines.proofs.Hex.{hex-at, value-below, byte-there, byte-past}
 use borrow.Author.Needs.{needs}
 use Rattle.bench_lines.proofs.reading.byte_at.Statement.{statement}
 use Rattle.bench_lines.proofs.reading.byte_at.Tie as tie
-use Rattle.bench_lines.proofs.reading.byte_at.Reads as reads
-use Rattle.bench_lines.proofs.reading.byte_at.Lts as lts
-use Rattle.bench_lines.proofs.reading.hex_value.Reads as hex-value-reads
 
--- src/reading.rt:164:16
 mul-high : tie.Need-mul-high
 mul-high c = search needs
 
--- src/reading.rt:165:15
 add-low : tie.Need-add-low
 add-low c = search needs
 
--- src/reading.rt:167:31
 shared-slice-read-hex-value : tie.Need-shared-slice-read-hex-value
 shared-slice-read-hex-value c = search needs
 
--- src/reading.rt:167:21
 hex-value-requires : tie.Need-hex-value-requires
-hex-value-requires c κs = ?
+hex-value-requires c κs = let s = c .before .before .before in hex-at (s .args .hex .now) (s .pre .0) (2 * s .args .index) (omega arith)
 
--- src/reading.rt:167:16
 mul-result : tie.Need-mul-result
-mul-result c = ?
+mul-result c = let s = c .before .before .before .before in omega (arith, value-below _ (hex-at (s .args .hex .now) (s .pre .0) (2 * s .args .index) (omega arith)))
 
--- src/reading.rt:167:54
 shared-slice-read-hex-value-2 : tie.Need-shared-slice-read-hex-value-2
 shared-slice-read-hex-value-2 c = search needs
 
--- src/reading.rt:167:44
 hex-value-requires-2 : tie.Need-hex-value-requires-2
-hex-value-requires-2 c κs = ?
+hex-value-requires-2 c κs = let s = c .before .before .before .before .before in hex-at (s .args .hex .now) (s .pre .0) (2 * s .args .index + 1) (omega arith)
 
--- src/reading.rt:167:16
 add-result : tie.Need-add-result
-add-result c = ?
+add-result c =
+    let s = c .before .before .before .before .before .before in
+    let hex = s .args .hex .now in
+    let i = s .args .index in
+    omega (arith, value-below _ (hex-at hex (s .pre .0) (2 * i) (omega arith)), value-below _ (hex-at hex (s .pre .0) (2 * i + 1) (omega arith)))
 
--- src/reading.rt:167:9
 returns : tie.Need-returns
-returns c = ?
+returns c = let s = c .before .before .before .before .before .before in omega (arith, byte-there (s .args .hex .now) (s .args .index) (omega arith))
 
--- src/reading.rt:160:1
 returns-2 : tie.Need-returns-2
-returns-2 c = ?
+returns-2 c = let s = c .before .before in sym (byte-past (s .args .hex .now) (s .args .index) (omega arith))
 
 pub byte-at-spec : {M : Type 1} → statement M
 byte-at-spec =

@@ -1,55 +1,59 @@
+-- `number` meets its contract: the digits passed said so much. Assumes nothing.
+use Prim.Native.Nat.{ℕ, _+_, _-_, _*_, _^_, _≤_, _<_}
+use native.Mathlib.Omega.{arith}
+use mathlib.Core.Path.{_≡_, refl, sym, ap, _∙_}
+use lib.ListN.{length, drop}
+use Rattle.bench_lines.specs.Lines.{numberFrom, numberOf}
+use Rattle.bench_lines.proofs.Digits.{digit-at, number-more, number-end, below-more, below-most}
 use borrow.Author.Needs.{needs}
 use Rattle.bench_lines.proofs.reading.number.Statement.{statement}
 use Rattle.bench_lines.proofs.reading.number.Tie as tie
-use Rattle.bench_lines.proofs.reading.number.Reads as reads
-use Rattle.bench_lines.proofs.reading.number.Lts as lts
-use Rattle.bench_lines.proofs.reading.wide.Reads as wide-reads
 
 abbrev Inv-loop : tie.InvT-loop
-Inv-loop digits value₀ i₀ value i = ?
+Inv-loop digits value₀ i₀ value i = (i ≤ length digits) × (value < 10 ^ i) × (numberOf digits ≡ numberFrom value (drop i digits))
 
 abbrev μ-loop : tie.MeasureT-loop
-μ-loop digits value₀ i₀ value i = ?
+μ-loop digits value₀ i₀ value i = length digits - i
 
--- src/reading.rt:134:5
 loop-holds : tie.Need-loop-holds Inv-loop μ-loop
-loop-holds c = search needs
+loop-holds c = (search needs, omega arith, refl)
 
--- src/reading.rt:135:17
 mul-value : tie.Need-mul-value Inv-loop μ-loop
-mul-value c = search needs
+mul-value c = let at = c .before .loop in omega (arith, below-most (at .value) (at .i) (omega arith) (at .inv .1))
 
--- src/reading.rt:135:35
 shared-slice-read-wide : tie.Need-shared-slice-read-wide Inv-loop μ-loop
 shared-slice-read-wide c = search needs
 
--- src/reading.rt:135:35
 sub-wide : tie.Need-sub-wide Inv-loop μ-loop
-sub-wide c = search needs
+sub-wide c = let s = c .before .before .before .before in omega (arith, digit-at (s .args .digits .now) (s .pre .1) (c .before .before .loop .i) (omega arith))
 
--- src/reading.rt:135:30
 wide-requires : tie.Need-wide-requires Inv-loop μ-loop
 wide-requires c κs = search needs
 
--- src/reading.rt:135:17
 add-value : tie.Need-add-value Inv-loop μ-loop
-add-value c = search needs
+add-value c =
+    let at = c .before .before .before .loop in
+    let s = c .before .before .before .before .before in
+    omega (arith, below-most (at .value) (at .i) (omega arith) (at .inv .1), digit-at (s .args .digits .now) (s .pre .1) (at .i) (omega arith))
 
--- src/reading.rt:136:9
 add-i : tie.Need-add-i Inv-loop μ-loop
 add-i c = search needs
 
--- src/reading.rt:134:5
 loop-less : tie.Need-loop-less Inv-loop μ-loop
 loop-less c = search needs
 
--- src/reading.rt:134:5
 loop-again : tie.Need-loop-again Inv-loop μ-loop
-loop-again c = search needs
+loop-again c =
+    let at = c .before .before .before .loop in
+    let s = c .before .before .before .before .before in
+    let l = s .args .digits .now in (
+      search needs,
+      below-more (at .value) _ (at .i) (at .inv .1) (omega (arith, digit-at l (s .pre .1) (at .i) (omega arith))),
+      at .inv .2 ∙ (number-more l (at .i) (at .value) (omega arith) ∙ ap (λ (d : ℕ). numberFrom (10 * at .value + d) (drop (at .i + 1) l)) (sym (c .wide .ensures))),
+    )
 
--- src/reading.rt:128:1
 returns : tie.Need-returns Inv-loop μ-loop
-returns c = search needs
+returns c = let at = c .before .loop in sym (at .inv .2 ∙ number-end _ (at .i) (at .value) (omega arith))
 
 pub number-spec : {M : Type 1} → statement M
 number-spec =
