@@ -91,14 +91,15 @@ module _ (l : List ℕ) (n : ℕ) where
   is-formed : FormFacts l n → isFormed l n ≡ true
   unfolding isFormed pick
   is-formed f =
-      simp
-      (le-leb 1 n (f .some),
-      le-leb n 15 (f .most),
-      le-leb (n + 3) (length l) (f .long),
-      eq-eqb (getD l n 0) space (f .before),
-      f .flag,
-      eq-eqb (getD l (n + 2) 0) space (f .after),
-      f .hex)
+      simp (
+        le-leb 1 n (f .some),
+        le-leb n 15 (f .most),
+        le-leb (n + 3) (length l) (f .long),
+        eq-eqb (getD l n 0) space (f .before),
+        f .flag,
+        eq-eqb (getD l (n + 2) 0) space (f .after),
+        f .hex,
+      )
 
   -- ---- what reads was written so
 

@@ -1,82 +1,77 @@
+-- `is_formed` meets its contract. Assumes nothing.
+use Rattle.ctaphid.proofs.Tests.{tests}
+use Prim.Native.Nat.{_+_}
+use mathlib.Core.Path.{sym, ap, _∙_}
+use Rattle.packet.proofs.Parts.{rest}
+use Rattle.bench_lines.specs.Lines.{isHex, isFormed}
 use borrow.Author.Needs.{needs}
 use Rattle.bench_lines.proofs.reading.is_formed.Statement.{statement}
 use Rattle.bench_lines.proofs.reading.is_formed.Tie as tie
-use Rattle.bench_lines.proofs.reading.is_formed.Reads as reads
-use Rattle.bench_lines.proofs.reading.is_formed.Lts as lts
-use Rattle.bench_lines.proofs.reading.is_flag.Reads as is-flag-reads
-use Rattle.bench_lines.proofs.reading.is_hex.Reads as is-hex-reads
 
--- src/reading.rt:47:9
 returns : tie.Need-returns
-returns c = ?
+unfolding isFormed
+returns c = search tests depth 30
 
--- src/reading.rt:50:9
 returns-2 : tie.Need-returns-2
-returns-2 c = ?
+unfolding isFormed
+returns-2 c = search tests depth 30
 
--- src/reading.rt:52:16
 add-flag : tie.Need-add-flag
 add-flag c = search needs
 
--- src/reading.rt:53:15
 add-gap : tie.Need-add-gap
 add-gap c = search needs
 
--- src/reading.rt:54:15
 add-hex : tie.Need-add-hex
 add-hex c = search needs
 
--- src/reading.rt:56:9
 returns-3 : tie.Need-returns-3
-returns-3 c = ?
+unfolding isFormed
+returns-3 c = search tests depth 30
 
--- src/reading.rt:58:8
 shared-slice-read-if4 : tie.Need-shared-slice-read-if4
 shared-slice-read-if4 c = search needs
 
--- src/reading.rt:59:9
 returns-4 : tie.Need-returns-4
-returns-4 c = ?
+unfolding isFormed
+returns-4 c = search tests depth 30
 
--- src/reading.rt:61:16
 shared-slice-read-is-flag : tie.Need-shared-slice-read-is-flag
 shared-slice-read-is-flag c = search needs
 
--- src/reading.rt:61:8
 is-flag-requires : tie.Need-is-flag-requires
 is-flag-requires c κs = search needs
 
--- src/reading.rt:62:12
 shared-slice-read-if6 : tie.Need-shared-slice-read-if6
 shared-slice-read-if6 c = search needs
 
--- src/reading.rt:63:13
 returns-5 : tie.Need-returns-5
-returns-5 c = ?
+unfolding isFormed
+returns-5 c = search (tests, sym (c .before .before .before .is-flag .ensures) ∙ c .before .before .if5 .taken) depth 30
 
--- src/reading.rt:65:23
 sub-is-hex : tie.Need-sub-is-hex
 sub-is-hex c = search needs
 
--- src/reading.rt:65:23
 part-is-hex-start : tie.Need-part-is-hex-start
 part-is-hex-start c = search needs
 
--- src/reading.rt:65:23
 part-is-hex-end : tie.Need-part-is-hex-end
 part-is-hex-end c = search needs
 
--- src/reading.rt:65:9
 is-hex-requires : tie.Need-is-hex-requires
 is-hex-requires c κs = search needs
 
--- src/reading.rt:65:9
 returns-6 : tie.Need-returns-6
-returns-6 c = ?
+unfolding isFormed
+returns-6 c =
+    let a = c .before .before .before .before .before .before .before .before .before .before .before .before .before .args in
+    let flag = sym (c .before .before .before .before .before .is-flag .ensures) ∙ c .before .before .before .before .if5 .taken in
+    let hex = c .is-hex .ensures ∙ ap isHex (rest (a .digits + 3) (a .line .now)) in
+    search (tests, flag, hex) depth 30
 
--- src/reading.rt:43:1
 returns-7 : tie.Need-returns-7
-returns-7 c = ?
+unfolding isFormed
+returns-7 c = search (tests, sym (c .before .is-flag .ensures) ∙ c .if5 .left) depth 30
 
 pub is-formed-spec : {M : Type 1} → statement M
 is-formed-spec =
