@@ -58,12 +58,15 @@ module _ (l : List ℕ) (i : ℕ) where
   digits-end h = ap digitsIn (drop-of-length-le l {i = i} h)
 
   pub hex-more : i < length l → isHexDigit (getD l i 0) ≡ true → allHex (drop i l) ≡ allHex (drop (i + 1) l)
+  unfolding allHex
   hex-more h d = ap allHex (drop-one l i h) ∙ picked _ _ d
 
   pub hex-none : i < length l → isHexDigit (getD l i 0) ≡ false → allHex (drop i l) ≡ false
+  unfolding allHex
   hex-none h d = ap allHex (drop-one l i h) ∙ passed _ _ d
 
   pub hex-end : length l ≤ i → allHex (drop i l) ≡ true
+  unfolding allHex
   hex-end h = ap allHex (drop-of-length-le l {i = i} h)
 
   pub number-more : (v : ℕ) → i < length l → numberFrom v (drop i l) ≡ numberFrom (10 * v + (getD l i 0 - '0')) (drop (i + 1) l)

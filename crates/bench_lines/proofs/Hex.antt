@@ -80,7 +80,7 @@ module _ (c : ℕ) where
   value-below e = by-hex e (λ h k v. omega arith) (λ h k v. omega arith)
 
   pub digit-of-value : isHexDigit c ≡ true → hexDigit (hexValue c) ≡ c
-  unfolding hexDigit pick
+  unfolding pick
   digit-of-value e =
       by-hex e
       (λ h k v. let s : c - 48 < 10 = omega arith in rw v (simp (lt-ltb (c - 48) 10 s) (omega arith)))
@@ -90,11 +90,9 @@ module _ (c : ℕ) where
 
 module _ (v : ℕ) where
   low-digit : v < 10 → hexDigit v ≡ '0' + v
-  unfolding hexDigit
   low-digit h = picked _ _ (lt-ltb v 10 h)
 
   high-digit : 10 ≤ v → hexDigit v ≡ 'a' + (v - 10)
-  unfolding hexDigit
   high-digit h = passed _ _ (le-ltb v 10 h)
 
   pub digit-is-hex : v < 16 → isHexDigit (hexDigit v) ≡ true
@@ -114,10 +112,12 @@ module _ (v : ℕ) where
 -- ---- bytes
 
 pub length-hex : (bytes : List ℕ) → length (hexOf bytes) ≡ 2 * length bytes
+unfolding hexOf
 length-hex [] = refl
 length-hex (b ∷ bytes) = omega (arith, length-hex bytes)
 
 pub hex-all : (bytes : List ℕ) → Bytes bytes → allHex (hexOf bytes) ≡ true
+unfolding hexOf allHex
 hex-all [] h = refl
 hex-all (b ∷ bytes) h =
     picked _ _ (digit-is-hex (b / 16) (omega (arith, h 0)))
@@ -125,6 +125,7 @@ hex-all (b ∷ bytes) h =
     ∙ hex-all bytes (λ i. h (suc i))
 
 pub hex-read : (bytes : List ℕ) → Bytes bytes → bytesOf (hexOf bytes) ≡ bytes
+unfolding hexOf bytesOf
 hex-read [] h = refl
 hex-read (b ∷ bytes) h =
     let high : hexValue (hexDigit (b / 16)) ≡ b / 16 = value-of-digit (b / 16) (omega (arith, h 0)) in
@@ -136,32 +137,39 @@ hex-read (b ∷ bytes) h =
 
 -- each character of hex is a hex digit
 pub hex-at : (hex : List ℕ) → allHex hex ≡ true → (i : ℕ) → i < length hex → isHexDigit (getD hex i 0) ≡ true
+unfolding allHex
 hex-at [] e i h = absurd (omega arith)
 hex-at (c ∷ rest) e zero h = pick-true (isHexDigit c) (allHex rest) e .0
 hex-at (c ∷ rest) e (suc i) h = hex-at rest (pick-true (isHexDigit c) (allHex rest) e .1) i (omega arith)
 
 module _ (high low : ℕ) (rest : List ℕ) (e : allHex (high ∷ (low ∷ rest)) ≡ true) where
   pub high-hex : isHexDigit high ≡ true
+  unfolding allHex
   high-hex = pick-true (isHexDigit high) (allHex (low ∷ rest)) e .0
 
   pub low-hex : isHexDigit low ≡ true
+  unfolding allHex
   low-hex = pick-true (isHexDigit low) (allHex rest) (pick-true (isHexDigit high) (allHex (low ∷ rest)) e .1) .0
 
   pub rest-hex : allHex rest ≡ true
+  unfolding allHex
   rest-hex = pick-true (isHexDigit low) (allHex rest) (pick-true (isHexDigit high) (allHex (low ∷ rest)) e .1) .1
 
 pub read-length : (hex : List ℕ) → length hex % 2 ≡ 0 → 2 * length (bytesOf hex) ≡ length hex
+unfolding bytesOf
 read-length [] h = refl
 read-length (c ∷ []) h = omega arith
 read-length (high ∷ (low ∷ rest)) h = omega (arith, read-length rest (omega arith))
 
 pub read-bytes : (hex : List ℕ) → allHex hex ≡ true → Bytes (bytesOf hex)
+unfolding bytesOf
 read-bytes [] e i = omega arith
 read-bytes (c ∷ []) e i = omega arith
 read-bytes (high ∷ (low ∷ rest)) e zero = omega (arith, value-below high (high-hex high low rest e), value-below low (low-hex high low rest e))
 read-bytes (high ∷ (low ∷ rest)) e (suc i) = read-bytes rest (rest-hex high low rest e) i
 
 pub read-hex : (hex : List ℕ) → length hex % 2 ≡ 0 → allHex hex ≡ true → hexOf (bytesOf hex) ≡ hex
+unfolding hexOf bytesOf
 read-hex [] h e = refl
 read-hex (c ∷ []) h e = absurd (omega arith)
 read-hex (high ∷ (low ∷ rest)) h e =
@@ -175,6 +183,7 @@ read-hex (high ∷ (low ∷ rest)) h e =
 -- ---- the byte at an index
 
 pub byte-there : (hex : List ℕ) (k : ℕ) → 2 * k + 1 < length hex → getD (bytesOf hex) k 0 ≡ 16 * hexValue (getD hex (2 * k) 0) + hexValue (getD hex (2 * k + 1) 0)
+unfolding bytesOf
 byte-there [] k h = absurd (omega arith)
 byte-there (c ∷ []) k h = absurd (omega arith)
 byte-there (high ∷ (low ∷ rest)) zero h = refl
@@ -184,6 +193,7 @@ byte-there (high ∷ (low ∷ rest)) (suc k) h =
     rw (b, a) (byte-there rest k (omega arith))
 
 pub byte-past : (hex : List ℕ) (k : ℕ) → length hex ≤ 2 * k + 1 → getD (bytesOf hex) k 0 ≡ 0
+unfolding bytesOf
 byte-past [] k h = refl
 byte-past (c ∷ []) k h = refl
 byte-past (high ∷ (low ∷ rest)) zero h = absurd (omega arith)

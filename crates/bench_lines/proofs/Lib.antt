@@ -2,3 +2,4 @@ pub mod Hex
 pub mod Digits
 pub mod Lines
 pub mod Unique
+pub mod Examples

@@ -10,10 +10,11 @@ use lib.Dec.{leb, eqb}
 use lib.ListN.{length, take, drop, getD, length-append, take-append-drop}
 use lib.Seq.{length-take-le, drop-cons, take-append-seam, getD-append-seam, getD-append-add, drop-append-add}
 use Rattle.ctaphid.specs.Choice.{pick}
+use Rattle.ctaphid.specs.Limits.{packetSize}
 use Rattle.ctaphid.specs.Packets.{Bytes}
 use Rattle.ctaphid.proofs.Tests.{pick-true}
 use Rattle.bench_lines.specs.Hex.{'0', '1', space, hexOf, allHex, bytesOf}
-use Rattle.bench_lines.specs.Lines.{Input, Decimal, numberOf, flagOf, Written, Reading, reads, unread, digitsIn, isFlag, isHex, isFormed, inputOf, lineOf, ReadsAsWritten, OneReading, read, readTo, readLineOf}
+use Rattle.bench_lines.specs.Lines.{Input, Decimal, numberOf, flagOf, Written, Reading, reads, unread, digitsIn, isFlag, isHex, isFormed, inputOf, lineOf, ReadsAsWritten, OneReading, read, readTo, readInto, readLineOf, CallsAsWritten}
 use Rattle.bench_lines.specs.declared.Line.the-variants as line
 use Rattle.bench_lines.proofs.Hex.{by-bool, picked, passed, length-hex, hex-all, hex-read, read-length, read-bytes, read-hex}
 use Rattle.bench_lines.proofs.Digits.{in-line, in-front, before-space}
@@ -169,9 +170,13 @@ module _ (digits : List ℕ) (flag : ℕ) (hex : List ℕ) where
     bytes = bytesOf (hex-there i);
   }
 
-formed-reads : (l : List ℕ) → FormFacts l (digitsIn l) → lineOf l ≡ reads (inputOf l (digitsIn l))
+formed-reads : (l : List ℕ) → isFormed l (digitsIn l) ≡ true → lineOf l ≡ reads (inputOf l (digitsIn l))
 unfolding lineOf
-formed-reads l f = picked _ _ (is-formed l (digitsIn l) f)
+formed-reads l f = picked _ _ f
+
+unformed-reads : (l : List ℕ) → isFormed l (digitsIn l) ≡ false → lineOf l ≡ unread
+unfolding lineOf
+unformed-reads l f = passed _ _ f
 
 written-reads : (l : List ℕ) (i : Input) → Written l i → lineOf l ≡ reads i
 written-reads l i w =
@@ -191,7 +196,7 @@ written-reads l i w =
     let input : inputOf all (length (w .digits)) ≡ i =
     written-input (w .digits) flag (hexOf bytes)
     ∙ (λ k. record { time = sym (w .time) k; disabled = flag-told (i .disabled) k; bytes = hex-read bytes (w .bytes) k }) in
-    ap lineOf (w .line) ∙ (formed-reads all formed ∙ ap reads (ap (inputOf all) count ∙ input))
+    ap lineOf (w .line) ∙ (formed-reads all (is-formed all (digitsIn all) formed) ∙ ap reads (ap (inputOf all) count ∙ input))
 
 -- ---- both ways
 
@@ -202,13 +207,12 @@ same-reading : (i j : Input) → reads i ≡ reads j → i ≡ j
 same-reading i j e = cc
 
 reads-written : (l : List ℕ) (i : Input) → lineOf l ≡ reads i → Written l i
-unfolding lineOf
 reads-written l i e =
     by-bool (isFormed l (digitsIn l))
     (λ f.
-    let same : inputOf l (digitsIn l) ≡ i = same-reading _ _ (sym (picked _ _ f) ∙ e) in
+    let same : inputOf l (digitsIn l) ≡ i = same-reading _ _ (sym (formed-reads l f) ∙ e) in
     subst (λ (j : Input). Written l j) same (formed-written l (digitsIn l) (in-front l) (form-is l (digitsIn l) f)))
-    (λ f. absurd (reads-not-unread i (sym e ∙ passed _ _ f)))
+    (λ f. absurd (reads-not-unread i (sym e ∙ unformed-reads l f)))
 
 pub reads-as-written : ReadsAsWritten
 reads-as-written = record { sound = reads-written; complete = written-reads }
@@ -230,14 +234,23 @@ one-reading = record {
 -- ---- what a call leaves
 
 module _ (l p : List ℕ) where
-  pub left-refused : (length p ≡ 64 → ⊥) → readLineOf l p ≡ read (line.Refused 1) p
+  pub left-refused : (length p ≡ packetSize → ⊥) → readLineOf l p ≡ read (line.Refused 1) p
   unfolding readLineOf pick
-  left-refused size = simp (ne-eqb (length p) 64 size)
+  left-refused size = simp (ne-eqb (length p) packetSize size)
 
-  pub left-read : length p ≡ 64 → isFormed l (digitsIn l) ≡ true → readLineOf l p ≡ readTo (inputOf l (digitsIn l))
-  unfolding readLineOf lineOf pick
-  left-read size f = simp (eq-eqb (length p) 64 size, f)
+  module _ (size : length p ≡ packetSize) where
+    left-by : (r : Reading) → lineOf l ≡ r → readLineOf l p ≡ readInto r p
+    unfolding readLineOf pick
+    left-by r e = simp (eq-eqb (length p) packetSize size, e)
 
-  pub left-unread : length p ≡ 64 → isFormed l (digitsIn l) ≡ false → readLineOf l p ≡ read line.Unread p
-  unfolding readLineOf lineOf pick
-  left-unread size f = simp (eq-eqb (length p) 64 size, f)
+    pub left-read : isFormed l (digitsIn l) ≡ true → readLineOf l p ≡ readTo (inputOf l (digitsIn l))
+    left-read f = left-by (reads (inputOf l (digitsIn l))) (formed-reads l f)
+
+    pub left-unread : isFormed l (digitsIn l) ≡ false → readLineOf l p ≡ read line.Unread p
+    left-unread f = left-by unread (unformed-reads l f)
+
+pub calls-as-written : CallsAsWritten
+calls-as-written = record {
+  input = λ l p i size w. left-by l p size (reads i) (written-reads l i w);
+  unread = λ l p size no-input. left-by l p size unread (one-reading .only l no-input);
+}

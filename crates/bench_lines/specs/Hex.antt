@@ -1,58 +1,65 @@
--- Characters by their numbers, and bytes in lower-case hex, written and read back. Assumes nothing.
+-- Characters, and bytes in lower-case hex, written and read back. Assumes nothing.
 use Prim.Native.Nat.{ℕ, _+_, _-_, _*_, _/_, _%_}
+use Prim.Native.Char.{code}
+use Prim.Native.String.{String, [] as empty, _∷_ as _then_}
 use mathlib.Core.Bool.{Bool, true, false}
 use mathlib.Core.List.{List, [], _∷_}
 use lib.Dec.{leb, ltb}
 use Rattle.ctaphid.specs.Choice.{pick, every}
 
--- ---- characters
+-- ---- characters, as their ASCII numbers
+
+-- the characters of a text
+abbrev pub ascii : String → List ℕ
+ascii empty = []
+ascii (character then rest) = code character ∷ ascii rest
 
 abbrev pub '0' : ℕ
-'0' = 48
+'0' = code "0"
 
 abbrev pub '1' : ℕ
-'1' = 49
+'1' = code "1"
 
 abbrev pub '9' : ℕ
-'9' = 57
+'9' = code "9"
 
 abbrev pub 'a' : ℕ
-'a' = 97
+'a' = code "a"
 
 abbrev pub 'f' : ℕ
-'f' = 102
+'f' = code "f"
 
 abbrev pub space : ℕ
-space = 32
+space = code " "
 
--- ---- written: two characters for each byte, the high four bits first
+-- ---- bytes written: two characters each, the high four bits first
 
--- the character for a value below 16
-unfoldable pub hexDigit : ℕ → ℕ
-hexDigit v = pick (ltb v 10) ('0' + v) ('a' + (v - 10))
+-- 0 to 9, and from 10 on a to f
+abbrev pub hexDigit : ℕ → ℕ
+hexDigit d = pick (ltb d 10) ('0' + d) ('a' + (d - 10))
 
-abbrev pub hexOf : List ℕ → List ℕ
+unfoldable pub hexOf : List ℕ → List ℕ
 hexOf [] = []
-hexOf (b ∷ bytes) = hexDigit (b / 16) ∷ (hexDigit (b % 16) ∷ hexOf bytes)
+hexOf (byte ∷ rest) = hexDigit (byte / 16) ∷ hexDigit (byte % 16) ∷ hexOf rest
 
--- ---- read back
+-- ---- bytes read back
 
 unfoldable pub isDigit : ℕ → Bool
 isDigit c = every (leb '0' c ∷ leb c '9' ∷ [])
 
--- no capital letter is one
+-- a capital letter is none
 unfoldable pub isHexDigit : ℕ → Bool
 isHexDigit c = pick (isDigit c) true (every (leb 'a' c ∷ leb c 'f' ∷ []))
 
 unfoldable pub hexValue : ℕ → ℕ
 hexValue c = pick (isDigit c) (c - '0') (c - 'a' + 10)
 
-abbrev pub allHex : List ℕ → Bool
+unfoldable pub allHex : List ℕ → Bool
 allHex [] = true
 allHex (c ∷ rest) = pick (isHexDigit c) (allHex rest) false
 
--- a last character without a partner says nothing
-abbrev pub bytesOf : List ℕ → List ℕ
+-- two by two; a last character without a partner says nothing
+unfoldable pub bytesOf : List ℕ → List ℕ
 bytesOf [] = []
 bytesOf (high ∷ []) = []
 bytesOf (high ∷ (low ∷ rest)) = (16 * hexValue high + hexValue low) ∷ bytesOf rest

@@ -163,10 +163,10 @@ fn byte_at(hex: &[u8], index: usize) -> u8
 {
     let high = 2 * index;
     let low = high + 1;
-    if low < hex.len() {
-        return 16 * hex_value(hex[high]) + hex_value(hex[low]);
+    if low >= hex.len() {
+        return 0;
     }
-    0
+    16 * hex_value(hex[high]) + hex_value(hex[low])
 }
 
 fn is_digit(c: u8) -> bool

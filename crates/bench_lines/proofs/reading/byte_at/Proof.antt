@@ -13,6 +13,9 @@ mul-high c = search needs
 add-low : tie.Need-add-low
 add-low c = search needs
 
+returns : tie.Need-returns
+returns c = let s = c .before .before in sym (byte-past (s .args .hex .now) (s .args .index) (omega arith))
+
 shared-slice-read-hex-value : tie.Need-shared-slice-read-hex-value
 shared-slice-read-hex-value c = search needs
 
@@ -35,11 +38,8 @@ add-result c =
     let i = s .args .index in
     omega (arith, value-below _ (hex-at hex (s .pre .0) (2 * i) (omega arith)), value-below _ (hex-at hex (s .pre .0) (2 * i + 1) (omega arith)))
 
-returns : tie.Need-returns
-returns c = let s = c .before .before .before .before .before .before in omega (arith, byte-there (s .args .hex .now) (s .args .index) (omega arith))
-
 returns-2 : tie.Need-returns-2
-returns-2 c = let s = c .before .before in sym (byte-past (s .args .hex .now) (s .args .index) (omega arith))
+returns-2 c = let s = c .before .before .before .before .before .before in omega (arith, byte-there (s .args .hex .now) (s .args .index) (omega arith))
 
 pub byte-at-spec : {M : Type 1} → statement M
 byte-at-spec =
@@ -47,11 +47,11 @@ byte-at-spec =
     (tie.spec
     mul-high
     add-low
+    returns
     shared-slice-read-hex-value
     hex-value-requires
     mul-result
     shared-slice-read-hex-value-2
     hex-value-requires-2
     add-result
-    returns
     returns-2)
