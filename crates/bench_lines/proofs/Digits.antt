@@ -3,22 +3,14 @@ use Prim.Native.Nat.{ℕ, zero, suc, _+_, _-_, _*_, _^_, _≤_, _<_}
 use native.Mathlib.Nat.{pow-suc, pow-le-pow-right, lt-of-lt-of-le}
 use native.Mathlib.Numerals.{add-one}
 use native.Mathlib.Omega.{arith}
-use mathlib.Core.Path.{_≡_, refl, sym, ap, _∙_}
+use mathlib.Core.Path.{_≡_, sym, ap, _∙_}
 use mathlib.Core.Bool.{true, false}
 use mathlib.Core.List.{List, [], _∷_, _++_}
 use lib.ListN.{length, take, drop, getD, drop-of-length-le}
 use lib.Seq.{drop-cons}
-use Rattle.ctaphid.specs.Choice.{pick}
 use Rattle.bench_lines.specs.Hex.{'0', '9', space, isDigit, isHexDigit, allHex}
 use Rattle.bench_lines.specs.Lines.{Decimal, numberFrom, digitsIn}
 use Rattle.bench_lines.proofs.Hex.{by-bool, picked, passed, digit-is, is-digit, below-digits}
-
-pub in-line : (l : List ℕ) → digitsIn l ≤ length l
-in-line [] = omega arith
-in-line (c ∷ rest) =
-    by-bool (isDigit c)
-    (λ d. omega (arith, picked (suc (digitsIn rest)) 0 d, in-line rest))
-    (λ d. omega (arith, passed (suc (digitsIn rest)) 0 d))
 
 -- those that a line begins with are digits
 pub in-front : (l : List ℕ) → Decimal (take (digitsIn l) l)
@@ -32,10 +24,6 @@ in-front (c ∷ rest) =
 pub before-space : (digits rest : List ℕ) → Decimal digits → digitsIn (digits ++ (space ∷ rest)) ≡ length digits
 before-space [] rest h = passed _ _ (below-digits space (omega arith))
 before-space (d ∷ digits) rest h = picked _ _ (is-digit d (h .0) (h .1)) ∙ ap suc (before-space digits rest (h .2))
-
-pub all-digits : (digits : List ℕ) → Decimal digits → digitsIn digits ≡ length digits
-all-digits [] h = refl
-all-digits (d ∷ digits) h = picked _ _ (is-digit d (h .0) (h .1)) ∙ ap suc (all-digits digits (h .2))
 
 pub digit-at : (digits : List ℕ) → Decimal digits → (i : ℕ) → i < length digits → ('0' ≤ getD digits i 0) × (getD digits i 0 ≤ '9')
 digit-at [] h i l = absurd (omega arith)

@@ -1,23 +1,21 @@
 -- What a line reads as is what is written there. Assumes nothing.
-use Prim.Native.Nat.{ℕ, suc, _+_, _-_, _*_, _%_, _≤_, _<_}
+use Prim.Native.Nat.{ℕ, suc, _+_, _*_, _%_, _≤_}
 use native.Mathlib.Omega.{arith}
-use native.Mathlib.Numerals.{add-one}
 use mathlib.Core.Path.{_≡_, refl, sym, ap, subst, _∙_}
-use mathlib.Core.Bool.{Bool, true, false, true≢false}
-use mathlib.Core.List.{List, [], _∷_, _++_}
+use mathlib.Core.Bool.{Bool, true, false}
+use mathlib.Core.List.{List, _∷_, _++_}
 use borrow.Author.Tests.{le-leb, leb-true, eq-eqb, ne-eqb, eqb-true}
 use lib.Dec.{leb, eqb}
 use lib.ListN.{length, take, drop, getD, length-append, take-append-drop}
 use lib.Seq.{length-take-le, drop-cons, take-append-seam, getD-append-seam, getD-append-add, drop-append-add}
 use Rattle.ctaphid.specs.Choice.{pick}
 use Rattle.ctaphid.specs.Limits.{packetSize}
-use Rattle.ctaphid.specs.Packets.{Bytes}
 use Rattle.ctaphid.proofs.Tests.{pick-true}
 use Rattle.bench_lines.specs.Hex.{'0', '1', space, hexOf, allHex, bytesOf}
 use Rattle.bench_lines.specs.Lines.{Input, Decimal, numberOf, flagOf, Written, Reading, reads, unread, digitsIn, isFlag, isHex, isFormed, inputOf, lineOf, ReadsAsWritten, OneReading, read, readTo, readInto, readLineOf, CallsAsWritten}
 use Rattle.bench_lines.specs.declared.Line.the-variants as line
 use Rattle.bench_lines.proofs.Hex.{by-bool, picked, passed, length-hex, hex-all, hex-read, read-length, read-bytes, read-hex}
-use Rattle.bench_lines.proofs.Digits.{in-line, in-front, before-space}
+use Rattle.bench_lines.proofs.Digits.{in-front, before-space}
 
 -- ---- the tests, as facts
 

@@ -1,6 +1,5 @@
 -- `is_hex` meets its contract. Assumes nothing.
 use Rattle.ctaphid.proofs.Tests.{tests}
-use mathlib.Core.Path.{sym, _∙_}
 use Rattle.bench_lines.specs.Lines.{isHex}
 use borrow.Author.Needs.{needs}
 use Rattle.bench_lines.proofs.reading.is_hex.Statement.{statement}
