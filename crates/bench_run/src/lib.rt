@@ -118,7 +118,13 @@ fn take_line(
     answer(with_room(next, out), &line[..kept], message, reply, out)
 }
 
-fn answer(bench: Bench, line: &[u8], message: &mut [u8], reply: &mut [u8], out: &mut [u8]) -> Bench {
+fn answer(
+    bench: Bench,
+    line: &[u8],
+    message: &mut [u8],
+    reply: &mut [u8],
+    out: &mut [u8],
+) -> Bench {
     let hid = bench.hid;
     let filled = bench.filled;
     let mut next = bench;
