@@ -1,0 +1,5 @@
+pub mod Placing
+pub mod Spelling
+pub mod Cutting
+pub mod Answers
+pub mod Unique
