@@ -2,5 +2,10 @@ pub mod Kept
 pub mod Hex
 pub mod Digits
 pub mod Lines
+pub mod Placing
+pub mod Spelling
+pub mod Cutting
+pub mod Answers
+pub mod Answered
 pub mod Unique
 pub mod Examples

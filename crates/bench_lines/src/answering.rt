@@ -1,0 +1,74 @@
+// A line of the bench, answered.
+use crate::Line;
+use crate::Printed;
+use crate::Text;
+use crate::Texts;
+use crate::printing::answer_text;
+use crate::printing::put;
+use crate::reading::read_line;
+use hid::MainHid;
+ghost use mathlib.Core.Path.{_≡_};
+ghost use Prim.Native.Nat.{_≤_};
+ghost use lib.ListN.{length};
+ghost use Rattle.ctaphid.specs.Packets.{Bytes};
+ghost use Rattle.hid.specs.Outer.{mainStepOf};
+ghost use Rattle.bench_lines.specs.Printing.{printing, printed};
+ghost use Rattle.bench_lines.specs.Answering.{benched, benchOf, lineOn, stepOn, unreadLine};
+
+// A line, without its newline, goes to the device, and out's front gets what is printed. A buffer shorter than the longest text is refused with 2, before
+// anything else.
+pub fn bench_line(
+    hid: MainHid,
+    line: &[u8],
+    message: &mut [u8],
+    reply: &mut [u8],
+    out: &mut [u8],
+) -> Printed
+    ensures { λ r. ⌜ benched r (now (message .exit)) (now (reply .exit)) (now (out .exit)) ≡ benchOf hid (now (line .entry)) (now (message .entry)) (now (reply .entry)) (now (out .entry)) ⌝ }
+{
+    if out.len() < Texts::LONGEST {
+        return Printed {
+            hid,
+            text: Text::Refused(2),
+        };
+    }
+    let mut packet = [0u8; 64];
+    match read_line(line, &mut packet) {
+        Line::Input { time, disabled } => {
+            step_on(hid, time, disabled, &packet, message, reply, out)
+        }
+        Line::Unread => unread(hid, out),
+        // never: the packet has 64 bytes
+        Line::Refused(_) => unread(hid, out),
+    }
+}
+
+fn step_on(
+    hid: MainHid,
+    time: u64,
+    disabled: bool,
+    packet: &[u8],
+    message: &mut [u8],
+    reply: &mut [u8],
+    out: &mut [u8],
+) -> Printed
+    ensures { λ r. ⌜ benched r (now (message .exit)) (now (reply .exit)) (now (out .exit)) ≡ stepOn (mainStepOf hid time disabled (now (packet .entry)) (now (message .entry)) (now (reply .entry))) (now (out .entry)) ⌝ }
+{
+    let stepped = hid.step(time, disabled, packet, message, reply);
+    let answer = stepped.answer;
+    let text = answer_text(answer, message, reply, out);
+    let next = stepped.hid;
+    Printed { hid: next, text }
+}
+
+// A line without a reading changes nothing.
+fn unread(hid: MainHid, out: &mut [u8]) -> Printed
+    requires { ⌜ 16899 ≤ length (now out) ⌝ }
+    ensures { λ r. ⌜ (r .hid ≡ hid) × (printing (r .text) (now (out .exit)) ≡ printed unreadLine (now (out .entry))) ⌝ }
+{
+    let end = put(b"line?\n", out, 0);
+    Printed {
+        hid,
+        text: Text::Bytes(end),
+    }
+}
