@@ -2,7 +2,8 @@
 use mathlib.Core.Path.{refl}
 use Rattle.ctaphid.specs.Choice.{pick}
 use Rattle.bench_lines.specs.Hex.{hexOf, isDigit, isHexDigit, hexValue, allHex, bytesOf}
-use Rattle.bench_lines.specs.Lines.{isFlag, isHex, isFormed, inputOf, lineOf, Examples}
+use Rattle.bench_lines.specs.Lines.{isFlag, isHex, isFormed, inputOf, lineOf}
+use Rattle.bench_lines.specs.Examples.{Examples}
 
 pub examples : Examples
 unfolding pick hexOf isDigit isHexDigit hexValue allHex bytesOf isFlag isHex isFormed inputOf lineOf

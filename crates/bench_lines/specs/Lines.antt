@@ -4,13 +4,13 @@ use Prim.Native.Nat.{ℕ, suc, _+_, _-_, _*_, _%_, _≤_}
 use mathlib.Core.Path.{_≡_}
 use mathlib.Core.Bool.{Bool, true, false, not}
 use mathlib.Core.List.{List, [], _∷_, _++_}
-use lib.ListN.{length, take, drop, getD, replicate}
+use lib.ListN.{length, take, drop, getD}
 use lib.Dec.{leb, eqb}
 use Rattle.ctaphid.specs.Choice.{pick, every, refusing}
 use Rattle.ctaphid.specs.Limits.{packetSize}
 use Rattle.ctaphid.specs.Messages.{padded}
 use Rattle.ctaphid.specs.Packets.{Bytes}
-use Rattle.bench_lines.specs.Hex.{ascii, '0', '1', '9', space, hexOf, isDigit, allHex, bytesOf}
+use Rattle.bench_lines.specs.Hex.{'0', '1', '9', space, hexOf, isDigit, allHex, bytesOf}
 use Rattle.bench_lines.specs.declared.Line.{Line}
 use Rattle.bench_lines.specs.declared.Line.the-variants as line
 
@@ -21,7 +21,7 @@ pub record Input : Type 0 where
   pub disabled : Bool
   pub bytes : List ℕ
 
--- ---- as it is written
+-- ---- as it is written: the form of a line
 
 -- each is a digit
 abbrev pub Decimal : List ℕ → Type 0
@@ -40,7 +40,7 @@ abbrev pub flagOf : Bool → ℕ
 flagOf false = '0'
 flagOf true = '1'
 
--- 1 to 15 digits, 0 or 1, 1 to 64 bytes in lower-case hex, one space between
+-- 1 to 15 digits, 0 or 1, 1 to 64 bytes in lower-case hex, one space between, and nothing else. Zeros may stand in front of a time
 pub record Written (characters : List ℕ) (input : Input) : Type 0 where
   pub digits : List ℕ
   pub some-digits : 1 ≤ length digits
@@ -52,7 +52,7 @@ pub record Written (characters : List ℕ) (input : Input) : Type 0 where
   pub bytes : Bytes (input .bytes)
   pub line : characters ≡ digits ++ (space ∷ (flagOf (input .disabled) ∷ (space ∷ hexOf (input .bytes))))
 
--- ---- as it is read
+-- ---- as it is read: by tests, in the order of the code. `ReadsAsWritten`, below, says that this finds what is written and nothing else
 
 pub data Reading : Type 0 where
   reads : Input → Reading
@@ -125,32 +125,7 @@ unfoldable pub readLineOf : (line packet : List ℕ) → Read
 readLineOf l p =
     refusing (λ number. read (line.Refused number) p) ((not (eqb (length p) packetSize), 1) ∷ []) (readInto (lineOf l) p)
 
--- so that a call leaves what is written in the line, and where nothing is, the packet as it was
+-- so that what a call leaves is told by what is written in the line, and where no input is, the packet stays as it was
 pub record CallsAsWritten : Type 0 where
   pub input : (l p : List ℕ) (i : Input) → length p ≡ packetSize → Written l i → readLineOf l p ≡ readTo i
   pub unread : (l p : List ℕ) → length p ≡ packetSize → ((i : Input) → Written l i → ⊥) → readLineOf l p ≡ read line.Unread p
-
--- ---- some lines
-
-pub record Examples : Type 0 where
-  -- a line of 01-scope's example, and one with a zero in front and a flag
-  pub scope : lineOf (ascii "5 0 00000001810002abcd") ≡ reads (record { time = 5; disabled = false; bytes = 0 ∷ 0 ∷ 0 ∷ 1 ∷ 0x81 ∷ 0 ∷ 2 ∷ 0xab ∷ 0xcd ∷ [] })
-  pub flagged : lineOf (ascii "007 1 0f") ≡ reads (record { time = 7; disabled = true; bytes = 0x0f ∷ [] })
-  -- the most that there can be
-  pub digits-15 : lineOf (ascii "999999999999999 0 00") ≡ reads (record { time = 999_999_999_999_999; disabled = false; bytes = 0 ∷ [] })
-  pub bytes-64 : lineOf (ascii "0 0 " ++ hexOf (replicate 64 0xff)) ≡ reads (record { time = 0; disabled = false; bytes = replicate 64 0xff })
-  -- lines without a reading
-  pub empty : lineOf (ascii "") ≡ unread
-  pub digits-16 : lineOf (ascii "0000000000000000 0 00") ≡ unread
-  pub bytes-65 : lineOf (ascii "0 0 " ++ hexOf (replicate 65 0xff)) ≡ unread
-  pub no-digits : lineOf (ascii " 0 00") ≡ unread
-  pub sign : lineOf (ascii "-1 0 00") ≡ unread
-  pub flag-2 : lineOf (ascii "0 2 00") ≡ unread
-  pub no-bytes : lineOf (ascii "0 0 ") ≡ unread
-  pub odd : lineOf (ascii "0 0 000") ≡ unread
-  pub capital : lineOf (ascii "0 0 AB") ≡ unread
-  pub two-spaces : lineOf (ascii "0 0  00") ≡ unread
-  pub tab : lineOf (ascii "0\t0\t00") ≡ unread
-  pub space-in-front : lineOf (ascii " 0 0 00") ≡ unread
-  pub space-after : lineOf (ascii "0 0 00 ") ≡ unread
-  pub carriage-return : lineOf (ascii "0 0 00\r") ≡ unread

@@ -3,7 +3,7 @@ use crate::Line;
 use packet::Limits;
 ghost use mathlib.Core.Path.{_≡_};
 ghost use mathlib.Core.Bool.{true};
-ghost use Prim.Native.Nat.{_≤_};
+ghost use Prim.Native.Nat.{_≤_, _<_};
 ghost use lib.ListN.{length, getD};
 ghost use Rattle.ctaphid.specs.Messages.{padded};
 ghost use Rattle.bench_lines.specs.Hex.{isDigit, isHexDigit, hexValue, allHex, bytesOf};
@@ -193,7 +193,7 @@ fn is_hex_digit(c: u8) -> bool
 
 fn hex_value(c: u8) -> u8
     requires { ⌜ isHexDigit c ≡ true ⌝ }
-    ensures { λ r. ⌜ r ≡ hexValue c ⌝ }
+    ensures { λ r. ⌜ (r ≡ hexValue c) × (r < 16) ⌝ }
 {
     if is_digit(c) {
         return c - b'0';

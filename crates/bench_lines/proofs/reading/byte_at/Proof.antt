@@ -1,8 +1,7 @@
 -- `byte_at` meets its contract. Assumes nothing.
-use Prim.Native.Nat.{_+_, _*_}
 use native.Mathlib.Omega.{arith}
 use mathlib.Core.Path.{sym}
-use Rattle.bench_lines.proofs.Hex.{hex-at, value-below, byte-there, byte-past}
+use Rattle.bench_lines.proofs.Hex.{hex-at, byte-there, byte-past}
 use borrow.Author.Needs.{needs}
 use Rattle.bench_lines.proofs.reading.byte_at.Statement.{statement}
 use Rattle.bench_lines.proofs.reading.byte_at.Tie as tie
@@ -20,23 +19,19 @@ shared-slice-read-hex-value : tie.Need-shared-slice-read-hex-value
 shared-slice-read-hex-value c = search needs
 
 hex-value-requires : tie.Need-hex-value-requires
-hex-value-requires c κs = let s = c .before .before .before in hex-at (s .args .hex .now) (s .pre .0) (2 * s .args .index) (omega arith)
+hex-value-requires c κs = hex-at _ (c .before .before .before .pre .0) _ (omega arith)
 
 mul-result : tie.Need-mul-result
-mul-result c = let s = c .before .before .before .before in omega (arith, value-below _ (hex-at (s .args .hex .now) (s .pre .0) (2 * s .args .index) (omega arith)))
+mul-result c = search needs
 
 shared-slice-read-hex-value-2 : tie.Need-shared-slice-read-hex-value-2
 shared-slice-read-hex-value-2 c = search needs
 
 hex-value-requires-2 : tie.Need-hex-value-requires-2
-hex-value-requires-2 c κs = let s = c .before .before .before .before .before in hex-at (s .args .hex .now) (s .pre .0) (2 * s .args .index + 1) (omega arith)
+hex-value-requires-2 c κs = hex-at _ (c .before .before .before .before .before .pre .0) _ (omega arith)
 
 add-result : tie.Need-add-result
-add-result c =
-    let s = c .before .before .before .before .before .before in
-    let hex = s .args .hex .now in
-    let i = s .args .index in
-    omega (arith, value-below _ (hex-at hex (s .pre .0) (2 * i) (omega arith)), value-below _ (hex-at hex (s .pre .0) (2 * i + 1) (omega arith)))
+add-result c = search needs
 
 returns-2 : tie.Need-returns-2
 returns-2 c = let s = c .before .before .before .before .before .before in omega (arith, byte-there (s .args .hex .now) (s .args .index) (omega arith))

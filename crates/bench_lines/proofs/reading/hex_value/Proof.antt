@@ -13,7 +13,9 @@ sub-result : tie.Need-sub-result
 sub-result c = omega (arith, digit-is _ (sym (c .before .is-digit .ensures) ∙ c .if1 .taken))
 
 returns : tie.Need-returns
-returns c = sym (digit-value _ (sym (c .before .is-digit .ensures) ∙ c .if1 .taken))
+returns c =
+    let digit = sym (c .before .is-digit .ensures) ∙ c .if1 .taken in
+    (sym (digit-value _ digit), omega (arith, digit-is _ digit))
 
 sub-result-2 : tie.Need-sub-result-2
 sub-result-2 c = omega (arith, letter-is _ (sym (c .before .is-digit .ensures) ∙ c .if1 .left) (c .before .before .pre))
@@ -22,7 +24,9 @@ add-result : tie.Need-add-result
 add-result c = search needs
 
 returns-2 : tie.Need-returns-2
-returns-2 c = sym (letter-value _ (sym (c .before .is-digit .ensures) ∙ c .if1 .left))
+returns-2 c =
+    let none = sym (c .before .is-digit .ensures) ∙ c .if1 .left in
+    (sym (letter-value _ none), omega (arith, letter-is _ none (c .before .before .pre)))
 
 pub hex-value-spec : {M : Type 1} → statement M
 hex-value-spec =
