@@ -10,12 +10,12 @@ use libc::STDOUT_FILENO;
 use packet::Limits;
 ghost use mathlib.Core.Path.{_≡_};
 
-// What goes from line to line: the device, how much is kept of a line that has begun, how much of the output is not written yet, and whether it is still taken.
+// What goes from line to line: the device, how much is kept of a line that has begun, how much of the output is not written yet, and whether to go on.
 struct Bench {
     hid: MainHid,
     kept: usize,
     filled: usize,
-    open: bool,
+    more: bool,
 }
 
 // A device from its set-up: maximum 7,609, U2F in. With set-ups, a line that begins with '=' sets up another one. What is read and written no contract can say.
@@ -29,9 +29,8 @@ pub fn run(setups: bool)
     }
 }
 
-// Output is written before each read, so that whoever waits for an answer before the next line gets it. The turns say only that the loop ends.
+// The turns say only that the loop ends.
 fn take_input(hid: MainHid, setups: bool) {
-    let mut input = io::large_buffer();
     let mut line = [0u8; 147];
     let mut message = [0u8; 7609];
     let mut reply = [0u8; 17];
@@ -40,31 +39,55 @@ fn take_input(hid: MainHid, setups: bool) {
         hid,
         kept: 0,
         filled: 0,
-        open: true,
+        more: true,
     };
     let mut turns = u64::MAX;
-    while turns > 0 && bench.open {
-        let n = io::count(libc::read(STDIN_FILENO, &mut input), &input);
-        if n == 0 {
-            break;
-        }
-        bench = take_lines(
-            bench,
-            setups,
-            &input[..n],
-            &mut line,
-            &mut message,
-            &mut reply,
-            &mut out,
-        );
-        bench = flush(bench, &out);
+    while turns > 0 && bench.more {
+        bench = take_piece(bench, setups, &mut line, &mut message, &mut reply, &mut out);
         turns -= 1;
     }
-    // the last line may have no newline
-    if bench.kept > 0 {
-        bench = take_line(bench, setups, &line, &mut message, &mut reply, &mut out);
+}
+
+// Output is written before the next read, so that whoever waits for an answer before the next line gets it.
+fn take_piece(
+    bench: Bench,
+    setups: bool,
+    line: &mut [u8],
+    message: &mut [u8],
+    reply: &mut [u8],
+    out: &mut [u8],
+) -> Bench {
+    let mut input = io::large_buffer();
+    let n = io::count(libc::read(STDIN_FILENO, &mut input), &input);
+    if n == 0 {
+        return take_last(bench, setups, line, message, reply, out);
     }
-    flush(bench, &out);
+    let taken = take_lines(bench, setups, &input[..n], line, message, reply, out);
+    flush(taken, out)
+}
+
+// The last line may have no newline.
+fn take_last(
+    bench: Bench,
+    setups: bool,
+    line: &[u8],
+    message: &mut [u8],
+    reply: &mut [u8],
+    out: &mut [u8],
+) -> Bench {
+    let mut last = bench;
+    if bench.kept > 0 {
+        last = flush(take_line(bench, setups, line, message, reply, out), out);
+    }
+    last.more = false;
+    last
+}
+
+// Where in a piece of input the next line begins, and whether there may be one.
+struct Place {
+    bench: Bench,
+    at: usize,
+    more: bool,
 }
 
 // A piece of input has at most as many lines as bytes.
@@ -77,24 +100,55 @@ fn take_lines(
     reply: &mut [u8],
     out: &mut [u8],
 ) -> Bench {
-    let mut next_bench = bench;
-    let mut at = 0;
-    for _ in 0..input.len() {
-        match bench_lines::cut_line(line, next_bench.kept, input, at) {
-            Cut::Whole { kept, next } => {
-                next_bench.kept = kept;
-                next_bench = take_line(next_bench, setups, line, message, reply, out);
-                at = next;
-            }
-            Cut::Part(kept) => {
-                next_bench.kept = kept;
-                return next_bench;
-            }
-            // never: both places are cut_line's own
-            Cut::Refused(_) => return next_bench,
-        }
+    let mut place = Place {
+        bench,
+        at: 0,
+        more: true,
+    };
+    let mut turns = input.len();
+    while turns > 0 && place.more {
+        place = next_line(place, setups, input, line, message, reply, out);
+        turns -= 1;
     }
-    next_bench
+    place.bench
+}
+
+fn next_line(
+    place: Place,
+    setups: bool,
+    input: &[u8],
+    line: &mut [u8],
+    message: &mut [u8],
+    reply: &mut [u8],
+    out: &mut [u8],
+) -> Place {
+    let at = place.at;
+    let mut bench = place.bench;
+    match bench_lines::cut_line(line, bench.kept, input, at) {
+        Cut::Whole { kept, next } => {
+            bench.kept = kept;
+            let answered = take_line(bench, setups, line, message, reply, out);
+            Place {
+                bench: answered,
+                at: next,
+                more: true,
+            }
+        }
+        Cut::Part(kept) => {
+            bench.kept = kept;
+            Place {
+                bench,
+                at,
+                more: false,
+            }
+        }
+        // never: both places are cut_line's own
+        Cut::Refused(_) => Place {
+            bench,
+            at,
+            more: false,
+        },
+    }
 }
 
 // A line that is whole.
@@ -112,10 +166,13 @@ fn take_line(
     if kept > line.len() {
         return next;
     }
-    if setups && kept > 0 && line[0] == b'=' {
-        return set_up(next, &line[1..kept]);
+    let whole = &line[..kept];
+    if setups {
+        if is_set_up(whole) {
+            return set_up(next, whole);
+        }
     }
-    answer(with_room(next, out), &line[..kept], message, reply, out)
+    answer(with_room(next, out), whole, message, reply, out)
 }
 
 fn answer(
@@ -128,23 +185,27 @@ fn answer(
     let hid = bench.hid;
     let filled = bench.filled;
     let mut next = bench;
-    if filled <= out.len() {
-        let printed = bench_lines::bench_line(hid, line, message, reply, &mut out[filled..]);
-        let stepped = printed.hid;
-        next.hid = stepped;
-        let text = printed.text;
-        next.filled = filled_by(text, filled, out.len());
+    if filled > out.len() {
+        return next;
     }
+    let printed = bench_lines::bench_line(hid, line, message, reply, &mut out[filled..]);
+    let stepped = printed.hid;
+    next.hid = stepped;
+    let text = printed.text;
+    next.filled = filled_by(text, filled, out.len());
     next
 }
 
 fn filled_by(text: Text, filled: usize, room: usize) -> usize {
     match text {
         Text::Bytes(n) => {
-            if n <= room && filled <= room - n {
-                return filled + n;
+            if n > room {
+                return filled;
             }
-            filled
+            if filled > room - n {
+                return filled;
+            }
+            filled + n
         }
         // never: there is room
         Text::Refused(_) => filled,
@@ -154,26 +215,40 @@ fn filled_by(text: Text, filled: usize, room: usize) -> usize {
 // The longest answer fits behind what is there.
 fn with_room(bench: Bench, out: &[u8]) -> Bench {
     let filled = bench.filled;
-    if filled <= out.len() && out.len() - filled >= Texts::LONGEST {
-        return bench;
+    if filled > out.len() {
+        return flush(bench, out);
     }
-    flush(bench, out)
+    if out.len() - filled < Texts::LONGEST {
+        return flush(bench, out);
+    }
+    bench
 }
 
 fn flush(bench: Bench, out: &[u8]) -> Bench {
     let filled = bench.filled;
     let mut next = bench;
     next.filled = 0;
-    if filled <= out.len() {
-        next.open = io::write_all(STDOUT_FILENO, &out[..filled]);
+    if filled > out.len() {
+        return next;
     }
+    next.more = io::write_all(STDOUT_FILENO, &out[..filled]);
     next
+}
+
+fn is_set_up(line: &[u8]) -> bool {
+    if line.len() == 0 {
+        return false;
+    }
+    line[0] == b'='
 }
 
 // The rest of the line has the form of a step: the time is the maximum, the flag U2F, and the packet's first bytes are the count of channels.
 fn set_up(bench: Bench, line: &[u8]) -> Bench {
     let mut packet = [0u8; 64];
-    match bench_lines::read_line(line, &mut packet) {
+    if line.len() == 0 {
+        return bench;
+    }
+    match bench_lines::read_line(&line[1..], &mut packet) {
         Line::Input { time, disabled } => {
             let count = packet::be32(packet[0], packet[1], packet[2], packet[3]);
             fresh(bench, time as usize, disabled, count)
