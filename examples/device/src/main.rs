@@ -8,6 +8,7 @@ use snjofrask::{
 };
 use std::env;
 use std::error::Error;
+use std::fs::File;
 use std::io::{self, Read, Write};
 use std::process::ExitCode;
 use std::sync::mpsc::{self, Receiver, RecvTimeoutError};
@@ -120,6 +121,7 @@ fn serve(touch: &Touch) -> Result<(), Box<dyn Error>> {
         match device.process_hid_packet(time_ms, &packet, false)? {
             Processed::Packets(packets) => send(packets)?,
             Processed::Request(request) => {
+                record(&request)?;
                 let Message { cid, cmd, .. } = request;
                 let payload = match answer(&request) {
                     Answer::AtOnce(payload) => payload,
@@ -137,6 +139,22 @@ fn serve(touch: &Touch) -> Result<(), Box<dyn Error>> {
         }
     }
     Ok(())
+}
+
+/// Adds a line to the file that a variable names, if it does: channel, command and payload in hex.
+fn record(request: &Message) -> io::Result<()> {
+    let Some(name) = env::var_os("SNJOFRASK_REQUESTS") else {
+        return Ok(());
+    };
+    let hex = |bytes: &[u8]| {
+        bytes
+            .iter()
+            .map(|byte| format!("{byte:02x}"))
+            .collect::<String>()
+    };
+    let (cid, cmd, payload) = (hex(&request.cid), request.cmd as u8, hex(request.payload));
+    let mut file = File::options().create(true).append(true).open(name)?;
+    file.write_all(format!("{cid} {cmd:02x} {payload}\n").as_bytes())
 }
 
 /// How a wait for a touch ends.
