@@ -128,7 +128,7 @@ static int pipe_write(void *handle, const unsigned char *report, size_t len)
     struct pipes *pipes = handle;
     const unsigned char *packet = report + 1;
 
-    if (len != PACKET + 1 || report[0] != 0 || write(pipes->out, packet, PACKET) != PACKET)
+    if (len != PACKET + 1 || report[0] != 0)
         return -1;
     if (seen.written++ == 0)
         memcpy(seen.first_written, packet, PACKET);
@@ -146,7 +146,8 @@ static int pipe_write(void *handle, const unsigned char *report, size_t len)
     }
     if (memcmp(packet, "\0\0\0\1", 4) != 0 && packet[4] != 0x86)
         seen.other_channel++;
-    return (int)len;
+    /* last, as the answer may come at once, and CANCEL is written by another thread */
+    return write(pipes->out, packet, PACKET) == PACKET ? (int)len : -1;
 }
 
 /* the device got what the packets held: the last line of its file is that message */
