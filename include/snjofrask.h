@@ -225,7 +225,8 @@ SNJOFRASK_ASSERT(offsetof(snjofrask_init_outcome, nonce) == 12);
 uint8_t snjofrask_device_new(snjofrask_device *hid, size_t max, uint8_t u2f);
 
 /*
- * A packet that came at a time. With disabled set, whoever has a channel is told that the device is busy.
+ * A packet that came at a time. With disabled set, every packet on a valid channel, a broadcast INIT too, is told that
+ * the device is busy.
  *
  * message has at least max bytes and is lent back untouched while a message is on its way in: its data is put together
  * there. reply has at least 17 bytes. Kinds:
