@@ -26,7 +26,7 @@ static struct {
     unsigned char first_written[PACKET], last_read[PACKET];
     size_t declared; /* by the last first packet that was written and no CANCEL */
     size_t answered; /* by the last first packet that was read and no KEEPALIVE */
-    int other_channel;
+    int other_channel; /* packets written, but for INIT, that are not of channel 1 */
     unsigned char message[LARGEST + PACKET]; /* the data of the packets from that first packet on */
     size_t collected;
     int command;
@@ -170,6 +170,7 @@ static int arrived(void)
 
 static void forget(void)
 {
+    CHECK(seen.other_channel == 0);
     memset(&seen, 0, sizeof seen);
 }
 
@@ -192,7 +193,7 @@ static fido_dev_t *start(const char *touch, const char *timeout)
 
 static void stop(fido_dev_t *dev)
 {
-    CHECK(seen.other_channel == 0);
+    forget();
     CHECK(fido_dev_close(dev) == FIDO_OK);
     fido_dev_free(&dev);
 }
