@@ -2,7 +2,7 @@
  * Snjofrask: CTAPHID, FIDO messages over USB HID in packets of 64 bytes, for C11 and C++17.
  *
  * Link target/staticlib/libsnjofrask.a, which `rt staticlib snjofrask` writes, for x86-64 with the System V calling
- * convention. It allocates nothing, keeps nothing between calls and calls nothing but memset.
+ * convention. It allocates nothing, keeps nothing between calls, and calls nothing outside but, at most, memset.
  *
  * What is proved holds for callers that keep to this:
  *  - Every pointer is valid for the count after it, or for its struct, is aligned as its type, and is not null, also
@@ -225,7 +225,8 @@ SNJOFRASK_ASSERT(offsetof(snjofrask_init_outcome, nonce) == 12);
 uint8_t snjofrask_device_new(snjofrask_device *hid, size_t max, uint8_t u2f);
 
 /*
- * A packet that came at a time. With disabled set, whoever has a channel is told that the device is busy.
+ * A packet that came at a time. With disabled set, every packet on a valid channel, a broadcast INIT too, is told that
+ * the device is busy.
  *
  * message has at least max bytes and is lent back untouched while a message is on its way in: its data is put together
  * there. reply has at least 17 bytes. Kinds:
