@@ -1,20 +1,27 @@
 -- What each of the code's answers prints, and what `textOf` gives, by its tests. Assumes nothing.
-use Prim.Native.Nat.{ℕ, _≤_, _<_}
+use Prim.Native.Nat.{ℕ, _*_, _≤_, _<_}
 use native.Mathlib.Omega.{arith}
-use mathlib.Core.Path.{_≡_}
+use native.Mathlib.Decide.{decLe}
+use mathlib.Core.Path.{_≡_, refl, sym, ap, _∙_}
 use mathlib.Core.List.{List}
-use borrow.Author.Tests.{lt-ltb, le-ltb}
-use lib.ListN.{length}
+use borrow.Author.Tests.{lt-ltb, le-ltb, le-leb}
+use lib.ListN.{length, take, drop, length-append, length-drop}
 use Rattle.ctaphid.specs.Choice.{pick}
 use Rattle.ctaphid.specs.Commands.{Command, number, MSG, CBOR, INIT, PING, CANCEL, ERROR, KEEPALIVE, WINK, LOCK}
 use Rattle.packet.specs.declared.command.CtapHidCommand.{CtapHidCommand}
 use Rattle.packet.specs.Numbers.{commandMeant}
+use Rattle.collect.specs.Adding.{front}
 use Rattle.hid.specs.declared.Answer.{Answer}
 use Rattle.hid.specs.declared.Answer.the-variants as answers
-use Rattle.hid.specs.Asking.{payloadOf}
+use Rattle.ctaphid.specs.Transport.{reply, request}
+use Rattle.hid.specs.Meaning.{Said, answered, said}
+use Rattle.hid.specs.Asking.{upTo, payloadOf}
 use Rattle.bench_lines.specs.Placing.{Put}
-use Rattle.bench_lines.specs.Printing.{ascii, refusedLine, commandLine, packetLines, answerLines, saidWith, printing, printed, textOf}
-use Rattle.bench_lines.specs.declared.printing.Text.the-variants.{Refused}
+use Rattle.bench_lines.specs.Printing.{ascii, hexOf, refusedLine, commandLine, packetLines, answerLines, saidWith, Printing, printing, printed, textOf, hexTextOf, NoneLonger, Held, PrintsWhatIsSaid}
+use Rattle.bench_lines.proofs.Spelling.{hex-length, decimal-length, payload-length}
+use Rattle.bench_lines.proofs.Cutting.{lines-length}
+use Rattle.bench_lines.specs.declared.printing.Text.{Text}
+use Rattle.bench_lines.specs.declared.printing.Text.the-variants.{Bytes, Refused}
 
 number-low : (k : Command) → number k ≤ 127
 number-low MSG = omega arith
@@ -70,3 +77,65 @@ module _ (a : Answer) (m r out : List ℕ) where
     pub text-is : length payload ≤ 7609 → textOf a m r out ≡ printed (answerLines (saidWith a payload)) out
     unfolding textOf pick
     text-is n = rw (← is) (simp (le-ltb (length out) 16899 h, le-ltb 7609 (length payload) n))
+
+-- ---- lengths
+pub none-longer : NoneLonger
+unfolding answerLines refusedLine commandLine hexOf
+none-longer (answers.Refused n) payload h = simp length-append (omega (arith, decimal-length 3 n))
+none-longer answers.Nothing payload h = omega arith
+none-longer (answers.Message c cmd len) payload h = simp length-append (omega (arith, payload-length payload))
+none-longer (answers.Echo c cmd len) payload h = lines-length c (number (commandMeant cmd)) payload h
+none-longer (answers.Reply c cmd len) payload h = lines-length c (number (commandMeant cmd)) payload h
+
+-- ---- what is said
+up-to : (len : ℕ) (l : List ℕ) → len ≤ length l → upTo len l ≡ take len l
+unfolding upTo pick
+up-to len l h = simp (le-leb len (length l) h)
+
+said-with : (a : Answer) (m r : List ℕ) → Held a m r → saidWith a (payloadOf a m r) ≡ said a m r
+said-with (answers.Refused n) m r h = refl
+said-with answers.Nothing m r h = refl
+said-with (answers.Message c cmd len) m r h = ap (λ (l : List ℕ). answered (request c (commandMeant cmd) l)) (up-to len m h)
+said-with (answers.Echo c cmd len) m r h = ap (λ (l : List ℕ). answered (reply c (commandMeant cmd) l)) (up-to len m h)
+said-with (answers.Reply c cmd len) m r h = ap (λ (l : List ℕ). answered (reply c (commandMeant cmd) l)) (up-to len r h)
+
+pub prints-what-is-said : PrintsWhatIsSaid
+prints-what-is-said a m r out h room n =
+    text-is a m r out room (payloadOf a m r) refl n ∙ ap (λ (s : Said). printed (answerLines s) out) (said-with a m r h)
+
+-- ---- for a caller, who takes the front of the buffer that a call says
+front-fits : (t out : List ℕ) → length (front t out) ≡ length out → length t ≤ length out
+front-fits t out e = omega (arith, length-append t (drop (length t) out), length-drop (length t) out)
+
+printed-fits : (t out : List ℕ) {x : Text} {n : ℕ} {left : List ℕ} → x ≡ Bytes n → length left ≡ length out → printing x left ≡ printed t out → n ≤ length out
+printed-fits t out {x} {n} {left} is kept e =
+    let same : n ≡ length t = cc (ap (λ (o : Printing). o .answer) e) in
+    let long : length (front t out) ≡ length out = ap (λ (o : Printing). length (o .out)) (sym e) ∙ kept in
+    omega (arith, front-fits t out long)
+
+refused-not : {number n : ℕ} {x : Text} {left out : List ℕ} → x ≡ Bytes n → printing x left ≡ printing (Refused number) out → ⊥
+refused-not is e = let z : _≡_ {A = ℕ} 0 1 = cc (ap (λ (o : Printing). o .answer) e) in omega arith
+
+pub text-fits : (a : Answer) (m r out : List ℕ) {x : Text} {n : ℕ} {left : List ℕ} → x ≡ Bytes n → length left ≡ length out → printing x left ≡ textOf a m r out → n ≤ length out
+text-fits a m r out {x} {n} {left} is kept e = by-room (decLe 16899 (length out))
+  where
+    by-payload : 16899 ≤ length out → Dec (length (payloadOf a m r) ≤ 7609) → n ≤ length out
+    by-payload room (yes h) = printed-fits (answerLines (saidWith a (payloadOf a m r))) out is kept (e ∙ text-is a m r out room (payloadOf a m r) refl h)
+    by-payload room (no h) = absurd (refused-not is (e ∙ text-7 a m r out room (payloadOf a m r) refl (omega arith)))
+
+    by-room : Dec (16899 ≤ length out) → n ≤ length out
+    by-room (yes room) = by-payload room (decLe (length (payloadOf a m r)) 7609)
+    by-room (no room) = absurd (refused-not is (e ∙ text-2 a m r out (omega arith)))
+
+pub hex-fits : (bytes out : List ℕ) {x : Text} {n : ℕ} {left : List ℕ} → x ≡ Bytes n → printing x left ≡ hexTextOf bytes out → (n ≡ 2 * length bytes) × (n ≤ length out)
+unfolding hexTextOf pick
+hex-fits bytes out {x} {n} {left} is e = by-room (decLe (2 * length bytes) (length out))
+  where
+    by-room : Dec (2 * length bytes ≤ length out) → (n ≡ 2 * length bytes) × (n ≤ length out)
+    by-room (yes room) =
+        let same : printing x left ≡ printed (hexOf bytes) out = e ∙ simp (le-ltb (length out) (2 * length bytes) room) in
+        let many : n ≡ length (hexOf bytes) = cc (ap (λ (o : Printing). o .answer) same) in
+        (omega (arith, hex-length bytes), omega (arith, hex-length bytes))
+    by-room (no room) =
+        let none : printing x left ≡ printing (Refused 2) out = e ∙ simp (lt-ltb (length out) (2 * length bytes) (omega arith)) in
+        absurd (refused-not is none)

@@ -3,3 +3,4 @@ pub mod Spelling
 pub mod Cutting
 pub mod Answers
 pub mod Unique
+pub mod ExampleLines

@@ -1,13 +1,14 @@
 -- The lines that an answer of the device prints (01-scope, Bench program). Assumes nothing.
-use Prim.Native.Nat.{ℕ, zero, suc, _+_, _-_, _*_, _/_, _%_}
+use Prim.Native.Nat.{ℕ, zero, suc, _+_, _-_, _*_, _/_, _%_, _≤_}
 use Prim.Native.Char.{code}
 use Prim.Native.String.{String, [] as empty, _∷_ as _then_}
+use mathlib.Core.Path.{_≡_}
 use mathlib.Core.List.{List, [], _∷_, _++_, map, flatten, reverse}
 use lib.ListN.{length, take, drop}
 use lib.Dec.{ltb, eqb}
 use Rattle.ctaphid.specs.Choice.{pick, refusing}
 use Rattle.ctaphid.specs.Limits.{largest}
-use Rattle.ctaphid.specs.Commands.{number}
+use Rattle.ctaphid.specs.Commands.{number, MSG, CBOR, INIT, PING, ERROR, WINK}
 use Rattle.ctaphid.specs.Packets.{four}
 use Rattle.ctaphid.specs.Messages.{wire}
 use Rattle.ctaphid.specs.Transport.{nothing, reply, request}
@@ -15,7 +16,7 @@ use Rattle.packet.specs.Numbers.{commandMeant}
 use Rattle.collect.specs.Adding.{front}
 use Rattle.hid.specs.declared.Answer.{Answer}
 use Rattle.hid.specs.declared.Answer.the-variants as answers
-use Rattle.hid.specs.Meaning.{Said, refused, answered}
+use Rattle.hid.specs.Meaning.{Said, refused, answered, said}
 use Rattle.hid.specs.Asking.{payloadOf}
 use Rattle.bench_lines.specs.declared.printing.Text.{Text}
 use Rattle.bench_lines.specs.declared.printing.Text.the-variants.{Bytes, Refused}
@@ -121,3 +122,33 @@ hexTextOf bytes out =
     refusing (λ number. printing (Refused number) out)
     ((ltb (length out) (2 * length bytes), 2) ∷ [])
     (printed (hexOf bytes) out)
+
+-- no text is longer than that
+abbrev pub NoneLonger : Type 0
+NoneLonger = (a : Answer) (payload : List ℕ) → length payload ≤ largest → length (answerLines (saidWith a payload)) ≤ longest
+
+-- an answer whose buffer holds its payload, as every answer of a step does
+abbrev pub Held : Answer → (message short : List ℕ) → Type 0
+Held (answers.Refused n) m r = Unit {0}
+Held answers.Nothing m r = Unit {0}
+Held (answers.Message c cmd len) m r = len ≤ length m
+Held (answers.Echo c cmd len) m r = len ≤ length m
+Held (answers.Reply c cmd len) m r = len ≤ length r
+
+-- prints what it says
+abbrev pub PrintsWhatIsSaid : Type 0
+PrintsWhatIsSaid =
+    (a : Answer) (m r out : List ℕ) → Held a m r → longest ≤ length out → length (payloadOf a m r) ≤ largest → textOf a m r out ≡ printed (answerLines (said a m r)) out
+
+-- ---- the scope's example, and what it leaves out: 7 bytes kept, an empty payload, numbers of two and three digits
+pub record ExampleLines : Type 0 where
+  pub init : answerLines (answered (reply 0xffff_ffff INIT (1 ∷ 2 ∷ 3 ∷ 4 ∷ 5 ∷ 6 ∷ 7 ∷ 8 ∷ 0 ∷ 0 ∷ 0 ∷ 1 ∷ 2 ∷ 1 ∷ 0 ∷ 0 ∷ 5 ∷ []))) ≡ ascii "> ffffffff8600110102030405060708000000010201000005\n"
+  pub ping : answerLines (answered (reply 1 PING (0xab ∷ 0xcd ∷ []))) ≡ ascii "> 00000001810002abcd\n"
+  pub error : answerLines (answered (reply 2 ERROR (0x0b ∷ []))) ≡ ascii "> 00000002bf00010b\n"
+  pub command : answerLines (answered (request 1 CBOR (4 ∷ []))) ≡ ascii "command 00000001 10 04\n"
+  pub none : answerLines (answered nothing) ≡ ascii "-\n"
+  pub refusal : answerLines (refused 4) ≡ ascii "refused 4\n"
+  pub kept : answerLines (answered (reply 1 WINK [])) ≡ ascii "> 00000001880000\n"
+  pub no-payload : answerLines (answered (request 0xdead_beef MSG [])) ≡ ascii "command deadbeef 03\n"
+  pub two-digits : answerLines (refused 12) ≡ ascii "refused 12\n"
+  pub three-digits : answerLines (refused 105) ≡ ascii "refused 105\n"
