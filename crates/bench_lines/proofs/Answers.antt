@@ -17,8 +17,10 @@ use Rattle.ctaphid.specs.Transport.{reply, request}
 use Rattle.hid.specs.Meaning.{Said, answered, said}
 use Rattle.hid.specs.Asking.{upTo, payloadOf}
 use Rattle.bench_lines.specs.Placing.{Put}
-use Rattle.bench_lines.specs.Printing.{ascii, hexOf, refusedLine, commandLine, packetLines, answerLines, saidWith, Printing, printing, printed, textOf, hexTextOf, NoneLonger, Held, PrintsWhatIsSaid}
-use Rattle.bench_lines.proofs.Spelling.{hex-length, decimal-length, payload-length}
+use Rattle.bench_lines.specs.Hex.{ascii, hexOf}
+use Rattle.bench_lines.specs.Printing.{refusedLine, commandLine, packetLines, answerLines, saidWith, Printing, printing, printed, textOf, hexTextOf, NoneLonger, Held, PrintsWhatIsSaid}
+use Rattle.bench_lines.proofs.Hex.{length-hex}
+use Rattle.bench_lines.proofs.Spelling.{decimal-length, payload-length}
 use Rattle.bench_lines.proofs.Cutting.{lines-length}
 use Rattle.bench_lines.specs.declared.printing.Text.{Text}
 use Rattle.bench_lines.specs.declared.printing.Text.the-variants.{Bytes, Refused}
@@ -135,7 +137,7 @@ hex-fits bytes out {x} {n} {left} is e = by-room (decLe (2 * length bytes) (leng
     by-room (yes room) =
         let same : printing x left ≡ printed (hexOf bytes) out = e ∙ simp (le-ltb (length out) (2 * length bytes) room) in
         let many : n ≡ length (hexOf bytes) = cc (ap (λ (o : Printing). o .answer) same) in
-        (omega (arith, hex-length bytes), omega (arith, hex-length bytes))
+        (omega (arith, length-hex bytes), omega (arith, length-hex bytes))
     by-room (no room) =
         let none : printing x left ≡ printing (Refused 2) out = e ∙ simp (lt-ltb (length out) (2 * length bytes) (omega arith)) in
         absurd (refused-not is none)

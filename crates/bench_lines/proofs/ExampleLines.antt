@@ -4,7 +4,8 @@ use mathlib.Core.List.{flatten}
 use Rattle.ctaphid.specs.Choice.{pick}
 use Rattle.ctaphid.specs.Packets.{written}
 use Rattle.ctaphid.specs.Messages.{later, chunks, padded, fields, continuations, packets}
-use Rattle.bench_lines.specs.Printing.{ExampleLines, hexOf, decimal, frontZerosDropped, endZerosDropped, trimmed, packetLine, commandLine, refusedLine, packetLines, answerLines}
+use Rattle.bench_lines.specs.Hex.{hexOf}
+use Rattle.bench_lines.specs.Printing.{ExampleLines, decimal, frontZerosDropped, endZerosDropped, trimmed, packetLine, commandLine, refusedLine, packetLines, answerLines}
 
 pub example-lines : ExampleLines
 unfolding pick flatten written later chunks padded fields continuations packets hexOf decimal frontZerosDropped endZerosDropped trimmed packetLine commandLine refusedLine packetLines answerLines

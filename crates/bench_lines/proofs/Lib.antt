@@ -1,6 +1,10 @@
+pub mod Hex
+pub mod Digits
+pub mod Lines
 pub mod Placing
 pub mod Spelling
 pub mod Cutting
 pub mod Answers
 pub mod Unique
+pub mod Examples
 pub mod ExampleLines

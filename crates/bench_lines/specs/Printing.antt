@@ -1,7 +1,5 @@
 -- The lines that an answer of the device prints (01-scope, Bench program). Assumes nothing.
-use Prim.Native.Nat.{ℕ, zero, suc, _+_, _-_, _*_, _/_, _%_, _≤_}
-use Prim.Native.Char.{code}
-use Prim.Native.String.{String, [] as empty, _∷_ as _then_}
+use Prim.Native.Nat.{ℕ, zero, suc, _+_, _*_, _/_, _%_, _≤_}
 use mathlib.Core.Path.{_≡_}
 use mathlib.Core.List.{List, [], _∷_, _++_, map, flatten, reverse}
 use lib.ListN.{length, take, drop}
@@ -18,29 +16,16 @@ use Rattle.hid.specs.declared.Answer.{Answer}
 use Rattle.hid.specs.declared.Answer.the-variants as answers
 use Rattle.hid.specs.Meaning.{Said, refused, answered, said}
 use Rattle.hid.specs.Asking.{payloadOf}
+use Rattle.bench_lines.specs.Hex.{ascii, '0', hexOf}
 use Rattle.bench_lines.specs.declared.printing.Text.{Text}
 use Rattle.bench_lines.specs.declared.printing.Text.the-variants.{Bytes, Refused}
 
--- ---- characters, as their ASCII numbers
-
--- the characters of a text
-abbrev pub ascii : String → List ℕ
-ascii empty = []
-ascii (character then rest) = code character ∷ ascii rest
-
--- 0 to 9, and from 10 on a to f
-abbrev pub hexDigit : ℕ → ℕ
-hexDigit d = pick (ltb d 10) (code "0" + d) (code "a" + (d - 10))
-
--- bytes in lower-case hex, two digits each
-unfoldable pub hexOf : List ℕ → List ℕ
-hexOf [] = []
-hexOf (byte ∷ rest) = hexDigit (byte / 16) ∷ hexDigit (byte % 16) ∷ hexOf rest
+-- ---- numbers
 
 -- a number of at most so many decimal digits, with no zero in front
 unfoldable pub decimal : (most : ℕ) → ℕ → List ℕ
 decimal zero n = []
-decimal (suc most) n = pick (ltb n 10) [] (decimal most (n / 10)) ++ ((code "0" + n % 10) ∷ [])
+decimal (suc most) n = pick (ltb n 10) [] (decimal most (n / 10)) ++ (('0' + n % 10) ∷ [])
 
 -- ---- lines
 

@@ -8,7 +8,8 @@ ghost use Prim.Native.Nat.{_+_, _*_, _/_, _<_, _≤_};
 ghost use lib.ListN.{length, take};
 ghost use Rattle.ctaphid.specs.Packets.{four};
 ghost use Rattle.bench_lines.specs.Placing.{laid, Put};
-ghost use Rattle.bench_lines.specs.Printing.{hexDigit, hexOf, decimal, trimmed, packetLine, payloadText, commandLine, refusedLine, packetLines, answerLines, saidWith, printing, textOf, hexTextOf};
+ghost use Rattle.bench_lines.specs.Hex.{hexDigit, hexOf};
+ghost use Rattle.bench_lines.specs.Printing.{decimal, trimmed, packetLine, payloadText, commandLine, refusedLine, packetLines, answerLines, saidWith, printing, textOf, hexTextOf};
 
 // How much of the text buffer's front was written; or a refusal, which leaves the buffer as it came.
 pub enum Text {

@@ -4,7 +4,7 @@ use Rattle.bench_lines.specs.Placing.{laid}
 use mathlib.Core.Path.{_∙_}
 use native.Mathlib.Omega.{arith}
 use lib.ListN.{length-set}
-use Rattle.bench_lines.specs.Printing.{hexOf}
+use Rattle.bench_lines.specs.Hex.{hexOf}
 use Rattle.bench_lines.proofs.Placing.{put-two}
 use borrow.Author.Needs.{needs}
 use Rattle.bench_lines.proofs.printing.put_byte.Statement.{statement}

@@ -1,6 +1,7 @@
 -- `put_command` meets its contract. Assumes nothing.
 use native.Mathlib.Omega.{arith}
-use Rattle.bench_lines.specs.Printing.{hexOf, commandLine}
+use Rattle.bench_lines.specs.Hex.{hexOf}
+use Rattle.bench_lines.specs.Printing.{commandLine}
 use Rattle.bench_lines.proofs.Placing.{put-both}
 use Rattle.bench_lines.proofs.Spelling.{payload-length}
 use borrow.Author.Needs.{needs}

@@ -5,7 +5,7 @@ use mathlib.Core.Path.{_≡_}
 use lib.ListN.{length, take}
 use lib.Seq.{take-all}
 use Rattle.bench_lines.specs.Placing.{Put}
-use Rattle.bench_lines.specs.Printing.{hexOf}
+use Rattle.bench_lines.specs.Hex.{hexOf}
 use Rattle.bench_lines.proofs.Placing.{put-none}
 use Rattle.bench_lines.proofs.Spelling.{hex-turn}
 use borrow.Author.Needs.{needs}
