@@ -4,8 +4,8 @@ use native.Mathlib.Omega.{arith}
 use native.Mathlib.Decide.{decLe}
 use mathlib.Core.Path.{_≡_, refl, sym, ap, _∙_}
 use mathlib.Core.List.{List}
-use borrow.Author.Tests.{lt-ltb, le-ltb, le-leb}
-use lib.ListN.{length, take, drop, length-append, length-drop}
+use borrow.Author.Tests.{lt-ltb, le-ltb}
+use lib.ListN.{length, drop, length-append, length-drop}
 use Rattle.ctaphid.specs.Choice.{pick}
 use Rattle.ctaphid.specs.Commands.{Command, number, MSG, CBOR, INIT, PING, CANCEL, ERROR, KEEPALIVE, WINK, LOCK}
 use Rattle.packet.specs.declared.command.CtapHidCommand.{CtapHidCommand}
@@ -13,12 +13,10 @@ use Rattle.packet.specs.Numbers.{commandMeant}
 use Rattle.collect.specs.Adding.{front}
 use Rattle.hid.specs.declared.Answer.{Answer}
 use Rattle.hid.specs.declared.Answer.the-variants as answers
-use Rattle.ctaphid.specs.Transport.{reply, request}
-use Rattle.hid.specs.Meaning.{Said, answered, said}
-use Rattle.hid.specs.Asking.{upTo, payloadOf}
+use Rattle.hid.specs.Asking.{payloadOf}
 use Rattle.bench_lines.specs.Placing.{Put}
 use Rattle.bench_lines.specs.Hex.{ascii, hexOf}
-use Rattle.bench_lines.specs.Printing.{refusedLine, commandLine, packetLines, answerLines, saidWith, Printing, printing, printed, textOf, hexTextOf, NoneLonger, Held, PrintsWhatIsSaid}
+use Rattle.bench_lines.specs.Printing.{refusedLine, commandLine, packetLines, answerLines, saidWith, Printing, printing, printed, textOf, hexTextOf, NoneLonger}
 use Rattle.bench_lines.proofs.Hex.{length-hex}
 use Rattle.bench_lines.proofs.Spelling.{decimal-length, payload-length}
 use Rattle.bench_lines.proofs.Cutting.{lines-length}
@@ -88,22 +86,6 @@ none-longer answers.Nothing payload h = omega arith
 none-longer (answers.Message c cmd len) payload h = simp length-append (omega (arith, payload-length payload))
 none-longer (answers.Echo c cmd len) payload h = lines-length c (number (commandMeant cmd)) payload h
 none-longer (answers.Reply c cmd len) payload h = lines-length c (number (commandMeant cmd)) payload h
-
--- ---- what is said
-up-to : (len : ℕ) (l : List ℕ) → len ≤ length l → upTo len l ≡ take len l
-unfolding upTo pick
-up-to len l h = simp (le-leb len (length l) h)
-
-said-with : (a : Answer) (m r : List ℕ) → Held a m r → saidWith a (payloadOf a m r) ≡ said a m r
-said-with (answers.Refused n) m r h = refl
-said-with answers.Nothing m r h = refl
-said-with (answers.Message c cmd len) m r h = ap (λ (l : List ℕ). answered (request c (commandMeant cmd) l)) (up-to len m h)
-said-with (answers.Echo c cmd len) m r h = ap (λ (l : List ℕ). answered (reply c (commandMeant cmd) l)) (up-to len m h)
-said-with (answers.Reply c cmd len) m r h = ap (λ (l : List ℕ). answered (reply c (commandMeant cmd) l)) (up-to len r h)
-
-pub prints-what-is-said : PrintsWhatIsSaid
-prints-what-is-said a m r out h room n =
-    text-is a m r out room (payloadOf a m r) refl n ∙ ap (λ (s : Said). printed (answerLines s) out) (said-with a m r h)
 
 -- ---- for a caller, who takes the front of the buffer that a call says
 front-fits : (t out : List ℕ) → length (front t out) ≡ length out → length t ≤ length out

@@ -5,6 +5,7 @@ pub mod Placing
 pub mod Spelling
 pub mod Cutting
 pub mod Answers
+pub mod Standard
 pub mod Unique
 pub mod Examples
 pub mod ExampleLines

@@ -9,13 +9,18 @@ use Rattle.ctaphid.specs.Limits.{largest}
 use Rattle.ctaphid.specs.Commands.{number, MSG, CBOR, INIT, PING, ERROR, WINK}
 use Rattle.ctaphid.specs.Packets.{four}
 use Rattle.ctaphid.specs.Messages.{wire}
-use Rattle.ctaphid.specs.Transport.{nothing, reply, request}
+use Rattle.ctaphid.specs.Transport.{Event, nothing, reply, request}
+use Rattle.ctaphid.specs.Device.{deviceStep}
 use Rattle.packet.specs.Numbers.{commandMeant}
 use Rattle.collect.specs.Adding.{front}
+use Rattle.hid.specs.declared.MainHid.{MainHid}
 use Rattle.hid.specs.declared.Answer.{Answer}
 use Rattle.hid.specs.declared.Answer.the-variants as answers
-use Rattle.hid.specs.Meaning.{Said, refused, answered, said}
+use Rattle.hid.specs.Meaning.{Said, refused, answered}
 use Rattle.hid.specs.Asking.{payloadOf}
+use Rattle.hid.specs.Soundness.{Sound}
+use Rattle.hid.specs.Outer.{deviceOf}
+use Rattle.hid.specs.Refining.{Comes, mainOnEvent}
 use Rattle.bench_lines.specs.Hex.{ascii, '0', hexOf}
 use Rattle.bench_lines.specs.declared.printing.Text.{Text}
 use Rattle.bench_lines.specs.declared.printing.Text.the-variants.{Bytes, Refused}
@@ -112,18 +117,13 @@ hexTextOf bytes out =
 abbrev pub NoneLonger : Type 0
 NoneLonger = (a : Answer) (payload : List ℕ) → length payload ≤ largest → length (answerLines (saidWith a payload)) ≤ longest
 
--- an answer whose buffer holds its payload, as every answer of a step does
-abbrev pub Held : Answer → (message short : List ℕ) → Type 0
-Held (answers.Refused n) m r = Unit {0}
-Held answers.Nothing m r = Unit {0}
-Held (answers.Message c cmd len) m r = len ≤ length m
-Held (answers.Echo c cmd len) m r = len ≤ length m
-Held (answers.Reply c cmd len) m r = len ≤ length r
-
--- prints what it says
-abbrev pub PrintsWhatIsSaid : Type 0
-PrintsWhatIsSaid =
-    (a : Answer) (m r out : List ℕ) → Held a m r → longest ≤ length out → length (payloadOf a m r) ≤ largest → textOf a m r out ≡ printed (answerLines (said a m r)) out
+-- a step of the device from a sound state prints what the standard's device answers. (That lent buffers keep their length is known of every call)
+abbrev pub PrintsTheStandard : Type 0
+PrintsTheStandard =
+    (o : MainHid) (m r out : List ℕ) (e : Event) → Sound (o .hid) (o .wink) → o .hid .max ≤ length m → 17 ≤ length r → Comes (o .hid .last) e
+    → length (mainOnEvent o m r e .message) ≤ largest → length (mainOnEvent o m r e .reply) ≤ largest → longest ≤ length out
+    → textOf (mainOnEvent o m r e .stepped .answer) (mainOnEvent o m r e .message) (mainOnEvent o m r e .reply) out
+    ≡ printed (answerLines (answered (deviceStep (deviceOf o m) e .answer))) out
 
 -- ---- the scope's example, and what it leaves out: 7 bytes kept, an empty payload, numbers of two and three digits
 pub record ExampleLines : Type 0 where
