@@ -1,16 +1,15 @@
 -- What each of the code's answers prints, and what `textOf` gives, by its tests. Assumes nothing.
-use Prim.Native.Nat.{ℕ, _*_, _≤_, _<_}
+use Prim.Native.Nat.{ℕ, _+_, _*_, _≤_, _<_}
 use native.Mathlib.Omega.{arith}
 use native.Mathlib.Decide.{decLe}
-use mathlib.Core.Path.{_≡_, refl, sym, ap, _∙_}
+use mathlib.Core.Path.{_≡_, refl, ap, _∙_}
 use mathlib.Core.List.{List}
 use borrow.Author.Tests.{lt-ltb, le-ltb}
-use lib.ListN.{length, drop, length-append, length-drop}
+use lib.ListN.{length, drop, length-append}
 use Rattle.ctaphid.specs.Choice.{pick}
 use Rattle.ctaphid.specs.Commands.{Command, number, MSG, CBOR, INIT, PING, CANCEL, ERROR, KEEPALIVE, WINK, LOCK}
 use Rattle.packet.specs.declared.command.CtapHidCommand.{CtapHidCommand}
 use Rattle.packet.specs.Numbers.{commandMeant}
-use Rattle.collect.specs.Adding.{front}
 use Rattle.hid.specs.declared.Answer.{Answer}
 use Rattle.hid.specs.declared.Answer.the-variants as answers
 use Rattle.hid.specs.Asking.{payloadOf}
@@ -88,38 +87,35 @@ none-longer (answers.Echo c cmd len) payload h = lines-length c (number (command
 none-longer (answers.Reply c cmd len) payload h = lines-length c (number (commandMeant cmd)) payload h
 
 -- ---- for a caller, who takes the front of the buffer that a call says
-front-fits : (t out : List ℕ) → length (front t out) ≡ length out → length t ≤ length out
-front-fits t out e = omega (arith, length-append t (drop (length t) out), length-drop (length t) out)
-
-printed-fits : (t out : List ℕ) {x : Text} {n : ℕ} {left : List ℕ} → x ≡ Bytes n → length left ≡ length out → printing x left ≡ printed t out → n ≤ length out
-printed-fits t out {x} {n} {left} is kept e =
-    let same : n ≡ length t = cc (ap (λ (o : Printing). o .answer) e) in
-    let long : length (front t out) ≡ length out = ap (λ (o : Printing). length (o .out)) (sym e) ∙ kept in
-    omega (arith, front-fits t out long)
+printed-fits : (text out : List ℕ) {x : Text} {n : ℕ} {left : List ℕ} → x ≡ Bytes n → printing x left ≡ printed text out → (n ≡ length text) × (n ≤ length left)
+printed-fits text out {x} {n} {left} is e =
+    let same : n ≡ length text = cc (ap (λ (o : Printing). o .answer) e) in
+    let long : length left ≡ length text + length (drop (length text) out) = ap (λ (o : Printing). length (o .out)) e ∙ length-append text (drop (length text) out) in
+    (same, omega arith)
 
 refused-not : {number n : ℕ} {x : Text} {left out : List ℕ} → x ≡ Bytes n → printing x left ≡ printing (Refused number) out → ⊥
 refused-not is e = let z : _≡_ {A = ℕ} 0 1 = cc (ap (λ (o : Printing). o .answer) e) in omega arith
 
-pub text-fits : (a : Answer) (m r out : List ℕ) {x : Text} {n : ℕ} {left : List ℕ} → x ≡ Bytes n → length left ≡ length out → printing x left ≡ textOf a m r out → n ≤ length out
-text-fits a m r out {x} {n} {left} is kept e = by-room (decLe 16899 (length out))
+pub text-fits : (a : Answer) (m r out : List ℕ) {x : Text} {n : ℕ} {left : List ℕ} → x ≡ Bytes n → printing x left ≡ textOf a m r out → n ≤ length left
+text-fits a m r out {x} {n} {left} is e = by-room (decLe 16899 (length out))
   where
-    by-payload : 16899 ≤ length out → Dec (length (payloadOf a m r) ≤ 7609) → n ≤ length out
-    by-payload room (yes h) = printed-fits (answerLines (saidWith a (payloadOf a m r))) out is kept (e ∙ text-is a m r out room (payloadOf a m r) refl h)
+    by-payload : 16899 ≤ length out → Dec (length (payloadOf a m r) ≤ 7609) → n ≤ length left
+    by-payload room (yes h) =
+        printed-fits (answerLines (saidWith a (payloadOf a m r))) out is (e ∙ text-is a m r out room (payloadOf a m r) refl h) .1
     by-payload room (no h) = absurd (refused-not is (e ∙ text-7 a m r out room (payloadOf a m r) refl (omega arith)))
 
-    by-room : Dec (16899 ≤ length out) → n ≤ length out
+    by-room : Dec (16899 ≤ length out) → n ≤ length left
     by-room (yes room) = by-payload room (decLe (length (payloadOf a m r)) 7609)
     by-room (no room) = absurd (refused-not is (e ∙ text-2 a m r out (omega arith)))
 
-pub hex-fits : (bytes out : List ℕ) {x : Text} {n : ℕ} {left : List ℕ} → x ≡ Bytes n → printing x left ≡ hexTextOf bytes out → (n ≡ 2 * length bytes) × (n ≤ length out)
+pub hex-fits : (bytes out : List ℕ) {x : Text} {n : ℕ} {left : List ℕ} → x ≡ Bytes n → printing x left ≡ hexTextOf bytes out → (n ≡ 2 * length bytes) × (n ≤ length left)
 unfolding hexTextOf pick
 hex-fits bytes out {x} {n} {left} is e = by-room (decLe (2 * length bytes) (length out))
   where
-    by-room : Dec (2 * length bytes ≤ length out) → (n ≡ 2 * length bytes) × (n ≤ length out)
+    by-room : Dec (2 * length bytes ≤ length out) → (n ≡ 2 * length bytes) × (n ≤ length left)
     by-room (yes room) =
-        let same : printing x left ≡ printed (hexOf bytes) out = e ∙ simp (le-ltb (length out) (2 * length bytes) room) in
-        let many : n ≡ length (hexOf bytes) = cc (ap (λ (o : Printing). o .answer) same) in
-        (omega (arith, length-hex bytes), omega (arith, length-hex bytes))
+        let fits = printed-fits (hexOf bytes) out is (e ∙ simp (le-ltb (length out) (2 * length bytes) room)) in
+        (fits .0 ∙ length-hex bytes, fits .1)
     by-room (no room) =
         let none : printing x left ≡ printing (Refused 2) out = e ∙ simp (lt-ltb (length out) (2 * length bytes) (omega arith)) in
         absurd (refused-not is none)
