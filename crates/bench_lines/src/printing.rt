@@ -24,7 +24,7 @@ impl Texts {
 }
 
 // The lines that an answer prints, each with its newline, at the front of out. A buffer shorter than the longest text is refused
-// with 2, a payload of more than 7,609 bytes with 7.
+// with 2, a payload of more than 7,609 bytes with 7. One lifetime for both buffers, as the payload is a part of either.
 pub fn answer_text<'a>(answer: Answer, message: &'a [u8], reply: &'a [u8], out: &mut [u8]) -> Text
     ensures { λ r. ⌜ printing r (now (out .exit)) ≡ textOf answer (now (message .entry)) (now (reply .entry)) (now (out .entry)) ⌝ }
 {
