@@ -53,7 +53,8 @@ mod hid;
 mod host;
 mod main_hid;
 mod message;
-#[allow(unsafe_code)]
+// all of the archive, of which this crate uses a part
+#[allow(unsafe_code, dead_code)]
 mod raw;
 mod send;
 

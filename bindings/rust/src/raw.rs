@@ -1,59 +1,60 @@
 //! The archive's entries, as `include/snjofrask.h` has them, each behind a safe function: Rust's borrow rules give
-//! what they need, valid and aligned parts that don't overlap. `snjofrask_write_packet` is left out: what it writes,
-//! `snjofrask_split_message` writes too.
+//! what they need, valid and aligned parts that don't overlap. The oracle and the speed measurements use this file too.
 
 // All states and answers are numbers without padding.
 
 #[repr(C)]
-#[derive(Clone, Copy, Debug, Default)]
+#[derive(Clone, Copy, Debug, Default, PartialEq, Eq)]
 pub struct MessageAssembler {
-    deadline: u64,
-    cid: u32,
-    len: u32,
-    taken: u32,
-    cmd: u16,
-    seq: u16,
+    pub deadline: u64,
+    pub cid: u32,
+    pub len: u32,
+    pub taken: u32,
+    pub cmd: u16,
+    pub seq: u16,
 }
 
 #[repr(C)]
-#[derive(Clone, Copy, Debug, Default)]
+#[derive(Clone, Copy, Debug, Default, PartialEq, Eq)]
 pub struct CtapHid {
-    assembler: MessageAssembler,
-    lock: u64,
-    last: u64,
-    allocated: u32,
-    locked: u32,
-    max: u32,
-    u2f: u32,
+    pub assembler: MessageAssembler,
+    pub lock: u64,
+    pub last: u64,
+    pub allocated: u32,
+    pub locked: u32,
+    pub max: u32,
+    pub u2f: u32,
 }
 
 #[repr(C)]
-#[derive(Clone, Copy, Debug, Default)]
+#[derive(Clone, Copy, Debug, Default, PartialEq, Eq)]
 pub struct MainHid {
     pub hid: CtapHid,
-    wink: u64,
+    pub wink: u64,
 }
 
 #[repr(C)]
-#[derive(Clone, Copy, Debug, Default)]
+#[derive(Clone, Copy, Debug, Default, PartialEq, Eq)]
 pub struct Collection {
-    len: u16,
-    taken: u16,
-    cmd: u8,
-    seq: u8,
+    pub len: u16,
+    pub taken: u16,
+    pub cmd: u8,
+    pub seq: u8,
 }
 
 #[repr(C)]
+#[derive(Clone, Copy, Debug, Default, PartialEq, Eq)]
 pub struct Outcome {
     pub len: usize,
     pub cid: u32,
     pub kind: u8,
     pub cmd: u8,
     pub refusal: u8,
-    spare: u8,
+    pub spare: u8,
 }
 
 #[repr(C)]
+#[derive(Clone, Copy, Debug, Default, PartialEq, Eq)]
 pub struct InitOutcome {
     pub cid: u32,
     pub protocol: u8,
@@ -62,7 +63,7 @@ pub struct InitOutcome {
     pub build: u8,
     pub capabilities: u8,
     pub refusal: u8,
-    spare: u16,
+    pub spare: u16,
     pub nonce: [u8; 8],
 }
 
@@ -72,10 +73,14 @@ const _: () = assert!(size_of::<Outcome>() == 16 && size_of::<InitOutcome>() == 
 
 pub mod kind {
     pub const REFUSED: u8 = 0;
+    pub const NOTHING: u8 = 1;
     pub const MESSAGE: u8 = 2;
     pub const ECHO: u8 = 3;
     pub const REPLY: u8 = 4;
     pub const FIRST: u8 = 5;
+    pub const CONTINUATION: u8 = 6;
+    pub const COUNT: u8 = 7;
+    pub const IGNORED: u8 = 8;
     pub const KEEPALIVE: u8 = 9;
     pub const WAITING: u8 = 10;
     pub const COLLECTED: u8 = 11;
@@ -111,6 +116,15 @@ unsafe extern "C" {
     fn snjofrask_is_winking(hid: *const MainHid, time: u64) -> u8;
     fn snjofrask_read_packet(packet: *const u8, packet_len: usize) -> Outcome;
     fn snjofrask_packet_count(len: usize) -> Outcome;
+    fn snjofrask_write_packet(
+        cid: u32,
+        cmd: u8,
+        payload: *const u8,
+        payload_len: usize,
+        index: usize,
+        packet: *mut u8,
+        packet_len: usize,
+    ) -> u8;
     fn snjofrask_split_message(
         cid: u32,
         cmd: u8,
@@ -200,6 +214,20 @@ pub fn read_packet(packet: &[u8]) -> Outcome {
 
 pub fn packet_count(len: usize) -> Outcome {
     unsafe { snjofrask_packet_count(len) }
+}
+
+pub fn write_packet(cid: u32, cmd: u8, payload: &[u8], index: usize, packet: &mut [u8]) -> u8 {
+    unsafe {
+        snjofrask_write_packet(
+            cid,
+            cmd,
+            payload.as_ptr(),
+            payload.len(),
+            index,
+            packet.as_mut_ptr(),
+            packet.len(),
+        )
+    }
 }
 
 pub fn split_message(

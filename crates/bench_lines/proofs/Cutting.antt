@@ -1,15 +1,17 @@
 -- A message's packets, written by index, and the lines that they print. Assumes nothing.
-use Prim.Native.Nat.{ℕ, _+_, _/_, _≤_, _<_}
+use Prim.Native.Nat.{ℕ, zero, suc, _+_, _*_, _/_, _≤_, _<_}
 use native.Mathlib.Omega.{arith}
 use native.Mathlib.Numerals.{add-one}
 use mathlib.Core.Path.{_≡_, refl, sym, ap, _∙_}
 use mathlib.Core.List.{List, [], _∷_, _++_, map, flatten, append-nil, append-assoc}
 use borrow.Author.Tests.{le-ltb}
-use lib.ListN.{length, take, getD}
+use lib.ListN.{length, take, drop, getD, length-append, length-take}
 use lib.Seq.{take-suc, take-all}
 use Rattle.ctaphid.specs.Choice.{pick}
 use Rattle.ctaphid.specs.Messages.{wire}
-use Rattle.ctaphid.proofs.Messages.{wire-length}
+use Rattle.ctaphid.specs.Packets.{written}
+use Rattle.ctaphid.proofs.Messages.{wire-length, wire-first, wire-later}
+use Rattle.ctaphid.proofs.RoundTrip.{padded-length}
 use Rattle.ctaphid.proofs.Splitting.{hid-count}
 use Rattle.send.specs.Sending.{Left, left, countOf, writeOf}
 use Rattle.send.specs.declared.Count.{Count}
@@ -19,6 +21,7 @@ use Rattle.send.proofs.Answers.{writes}
 use Rattle.bench_lines.specs.Placing.{Put}
 use Rattle.bench_lines.specs.Printing.{packetLine, packetLines}
 use Rattle.bench_lines.proofs.Placing.{put-both}
+use Rattle.bench_lines.proofs.Spelling.{line-length}
 
 -- ---- how many
 counted : (len : ℕ) → len ≤ 7609 → countOf len ≡ Packets (1 + (len + 1) / 59)
@@ -62,3 +65,24 @@ module _ (cid cmd : ℕ) (payload : List ℕ) where
       → place ≤ length out → Put 0 (firstLines i) out place mid → Put place (packetLine p) mid next left → Put 0 (firstLines (i + 1)) out next left
   packets-turn i h {place} {next} {out} {mid} {left} {p} e room a b =
       rw (first-more i h, ← e) (put-both (omega (arith, a .next)) a b)
+
+  -- ---- and how long they are
+  wire-size : (i : ℕ) → i < 1 + (length payload + 1) / 59 → length (getD (wire cid cmd payload) i []) ≡ 64
+  unfolding written
+  wire-size zero h = rw (wire-first cid cmd payload) (omega (arith, padded-length 57 (take 57 payload) (omega (arith, length-take 57 payload))))
+  wire-size (suc i) h =
+      let field = take 59 (drop (57 + 59 * i) payload) in
+      rw (wire-later cid cmd payload i (omega arith)) (omega (arith, padded-length 59 field (omega (arith, length-take 59 (drop (57 + 59 * i) payload)))))
+
+  first-length : (i : ℕ) → i ≤ 1 + (length payload + 1) / 59 → length (firstLines i) ≤ 131 * i
+  unfolding flatten
+  first-length zero h = omega arith
+  first-length (suc i) h =
+      let p = getD (wire cid cmd payload) i [] in
+      let long : length p ≤ 64 = omega (arith, wire-size i (omega arith)) in
+      rw (← add-one i, first-more i (omega arith)) (omega (arith, length-append (firstLines i) (packetLine p), first-length i (omega arith), line-length p long))
+
+  pub lines-length : length payload ≤ 7609 → length (packetLines cid cmd payload) ≤ 16899
+  lines-length n =
+      let all = 1 + (length payload + 1) / 59 in
+      omega (arith, first-length all (omega arith), ap length (first-all all (omega arith)))

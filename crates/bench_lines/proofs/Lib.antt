@@ -6,6 +6,8 @@ pub mod Placing
 pub mod Spelling
 pub mod Cutting
 pub mod Answers
+pub mod Standard
 pub mod Answered
 pub mod Unique
 pub mod Examples
+pub mod ExampleLines

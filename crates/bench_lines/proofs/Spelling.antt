@@ -11,6 +11,7 @@ use lib.ListN.{length, take, drop, getD, length-append, length-reverse, take-app
 use lib.Seq.{take-suc, take-append-le, drop-append-le, take-all, length-take-le}
 use Rattle.ctaphid.specs.Choice.{pick}
 use Rattle.bench_lines.specs.Placing.{laid, Put}
+use Rattle.bench_lines.proofs.Hex.{length-hex}
 use Rattle.bench_lines.proofs.Placing.{put-both}
 use Rattle.bench_lines.specs.Hex.{ascii, hexDigit, hexOf}
 use Rattle.bench_lines.specs.Printing.{decimal, frontZerosDropped, endZerosDropped, trimmed, packetLine, payloadText, printing, printed}
@@ -23,11 +24,6 @@ unfolding hexOf
 hex-append [] b = refl
 hex-append (x ∷ a) b = ap (λ (t : List ℕ). hexDigit (x / 16) ∷ hexDigit (x % 16) ∷ t) (hex-append a b)
 
-pub hex-length : (a : List ℕ) → length (hexOf a) ≡ 2 * length a
-unfolding hexOf
-hex-length [] = refl
-hex-length (x ∷ a) = omega (arith, hex-length a)
-
 -- a byte more
 hex-more : (part : List ℕ) (i : ℕ) → i < length part → hexOf (take (i + 1) part) ≡ hexOf (take i part) ++ hexOf (getD part i 0 ∷ [])
 hex-more part i h = rw (add-one, take-suc part i 0) (hex-append (take i part) (getD part i 0 ∷ []))
@@ -37,7 +33,7 @@ pub hex-turn : (part out mid left : List ℕ) (at place i : ℕ) → i < length 
     → left ≡ laid place (hexOf (getD part i 0 ∷ [])) mid → Put at (hexOf (take (i + 1) part)) out (place + 2) left
 unfolding hexOf
 hex-turn part out mid left at place i h room p e =
-    let n : length (hexOf (take i part)) ≡ 2 * i = hex-length (take i part) ∙ ap (λ (k : ℕ). 2 * k) (length-take-le i part (omega arith)) in
+    let n : length (hexOf (take i part)) ≡ 2 * i = length-hex (take i part) ∙ ap (λ (k : ℕ). 2 * k) (length-take-le i part (omega arith)) in
     rw (hex-more part i h) (put-both (omega arith) p (record { next = refl; bytes = e }))
 
 -- ---- decimal
@@ -128,7 +124,7 @@ module _ (p : List ℕ) (n : ℕ) (long : 7 < n) (h : n ≤ length p) where
 -- ---- lines
 pub line-length : (p : List ℕ) → length p ≤ 64 → length (packetLine p) ≤ 131
 unfolding packetLine
-line-length p h = simp length-append (omega (arith, hex-length (trimmed p), trimmed-length p))
+line-length p h = simp length-append (omega (arith, length-hex (trimmed p), trimmed-length p))
 
 pub payload-none : (l : List ℕ) → length l ≡ 0 → payloadText l ≡ []
 payload-none [] e = refl
@@ -140,7 +136,7 @@ payload-some (b ∷ l) e = refl
 
 pub payload-length : (l : List ℕ) → length (payloadText l) ≤ 1 + 2 * length l
 payload-length [] = omega arith
-payload-length (b ∷ l) = omega (arith, hex-length (b ∷ l))
+payload-length (b ∷ l) = omega (arith, length-hex (b ∷ l))
 
 -- a text at the front
 pub at-front : {t out left : List ℕ} {r : ℕ} → Put 0 t out r left → printing (Bytes r) left ≡ printed t out

@@ -1,30 +1,38 @@
 -- The lines that an answer of the device prints (01-scope, Bench program). Assumes nothing.
-use Prim.Native.Nat.{ℕ, zero, suc, _+_, _-_, _*_, _/_, _%_}
+use Prim.Native.Nat.{ℕ, zero, suc, _+_, _*_, _/_, _%_, _≤_}
+use mathlib.Core.Path.{_≡_}
 use mathlib.Core.List.{List, [], _∷_, _++_, map, flatten, reverse}
 use lib.ListN.{length, take, drop}
 use lib.Dec.{ltb, eqb}
 use Rattle.ctaphid.specs.Choice.{pick, refusing}
 use Rattle.ctaphid.specs.Limits.{largest}
-use Rattle.ctaphid.specs.Commands.{number}
+use Rattle.ctaphid.specs.Commands.{number, MSG, CBOR, INIT, PING, ERROR, WINK}
 use Rattle.ctaphid.specs.Packets.{four}
 use Rattle.ctaphid.specs.Messages.{wire}
-use Rattle.ctaphid.specs.Transport.{nothing, reply, request}
+use Rattle.ctaphid.specs.Transport.{Event, nothing, reply, request}
+use Rattle.ctaphid.specs.Device.{deviceStep}
 use Rattle.packet.specs.Numbers.{commandMeant}
 use Rattle.collect.specs.Adding.{front}
+use Rattle.hid.specs.declared.MainHid.{MainHid}
 use Rattle.hid.specs.declared.Answer.{Answer}
 use Rattle.hid.specs.declared.Answer.the-variants as answers
 use Rattle.hid.specs.Meaning.{Said, refused, answered}
 use Rattle.hid.specs.Asking.{payloadOf}
+use Rattle.hid.specs.Soundness.{Sound}
+use Rattle.hid.specs.Outer.{deviceOf}
+use Rattle.hid.specs.Refining.{Comes, mainOnEvent}
 use Rattle.bench_lines.specs.Hex.{ascii, '0', hexOf}
 use Rattle.bench_lines.specs.declared.Text.{Text}
 use Rattle.bench_lines.specs.declared.Text.the-variants.{Bytes, Refused}
 
--- ---- numbers and lines
+-- ---- numbers
 
 -- a number of at most so many decimal digits, with no zero in front
 unfoldable pub decimal : (most : ℕ) → ℕ → List ℕ
 decimal zero n = []
 decimal (suc most) n = pick (ltb n 10) [] (decimal most (n / 10)) ++ (('0' + n % 10) ∷ [])
+
+-- ---- lines
 
 -- bytes without the zeros in front of them, and without those at their end
 unfoldable pub frontZerosDropped : List ℕ → List ℕ
@@ -104,3 +112,28 @@ hexTextOf bytes out =
     refusing (λ number. printing (Refused number) out)
     ((ltb (length out) (2 * length bytes), 2) ∷ [])
     (printed (hexOf bytes) out)
+
+-- no text is longer than that
+abbrev pub NoneLonger : Type 0
+NoneLonger = (a : Answer) (payload : List ℕ) → length payload ≤ largest → length (answerLines (saidWith a payload)) ≤ longest
+
+-- a step of the device from a sound state prints what the standard's device answers. (That lent buffers keep their length is known of every call)
+abbrev pub PrintsTheStandard : Type 0
+PrintsTheStandard =
+    (o : MainHid) (m r out : List ℕ) (e : Event) → Sound (o .hid) (o .wink) → o .hid .max ≤ length m → 17 ≤ length r → Comes (o .hid .last) e
+    → length (mainOnEvent o m r e .message) ≤ largest → length (mainOnEvent o m r e .reply) ≤ largest → longest ≤ length out
+    → textOf (mainOnEvent o m r e .stepped .answer) (mainOnEvent o m r e .message) (mainOnEvent o m r e .reply) out
+    ≡ printed (answerLines (answered (deviceStep (deviceOf o m) e .answer))) out
+
+-- ---- the scope's example, and what it leaves out: 7 bytes kept, an empty payload, numbers of two and three digits
+pub record ExampleLines : Type 0 where
+  pub init : answerLines (answered (reply 0xffff_ffff INIT (1 ∷ 2 ∷ 3 ∷ 4 ∷ 5 ∷ 6 ∷ 7 ∷ 8 ∷ 0 ∷ 0 ∷ 0 ∷ 1 ∷ 2 ∷ 1 ∷ 0 ∷ 0 ∷ 5 ∷ []))) ≡ ascii "> ffffffff8600110102030405060708000000010201000005\n"
+  pub ping : answerLines (answered (reply 1 PING (0xab ∷ 0xcd ∷ []))) ≡ ascii "> 00000001810002abcd\n"
+  pub error : answerLines (answered (reply 2 ERROR (0x0b ∷ []))) ≡ ascii "> 00000002bf00010b\n"
+  pub command : answerLines (answered (request 1 CBOR (4 ∷ []))) ≡ ascii "command 00000001 10 04\n"
+  pub none : answerLines (answered nothing) ≡ ascii "-\n"
+  pub refusal : answerLines (refused 4) ≡ ascii "refused 4\n"
+  pub kept : answerLines (answered (reply 1 WINK [])) ≡ ascii "> 00000001880000\n"
+  pub no-payload : answerLines (answered (request 0xdead_beef MSG [])) ≡ ascii "command deadbeef 03\n"
+  pub two-digits : answerLines (refused 12) ≡ ascii "refused 12\n"
+  pub three-digits : answerLines (refused 105) ≡ ascii "refused 105\n"

@@ -5,16 +5,15 @@ use hid::Answer;
 use packet::Limits;
 use send::Count;
 ghost use mathlib.Core.Path.{_≡_};
-ghost use mathlib.Core.List.{[], _∷_, _++_};
+ghost use mathlib.Core.List.{[], _∷_};
 ghost use Prim.Native.Nat.{_+_, _*_, _/_, _<_, _≤_};
 ghost use lib.ListN.{length, take};
-ghost use Rattle.ctaphid.specs.Packets.{four};
 ghost use Rattle.bench_lines.specs.Placing.{laid, Put};
 ghost use Rattle.bench_lines.specs.Hex.{hexDigit, hexOf};
 ghost use Rattle.bench_lines.specs.Printing.{decimal, trimmed, packetLine, payloadText, commandLine, refusedLine, packetLines, answerLines, saidWith, printing, textOf, hexTextOf};
 
 // The lines that an answer prints, each with its newline, at the front of out. A buffer shorter than the longest text is refused
-// with 2, a payload of more than 7,609 bytes with 7.
+// with 2, a payload of more than 7,609 bytes with 7. One lifetime for both buffers, as the payload is a part of either.
 pub fn answer_text<'a>(answer: Answer, message: &'a [u8], reply: &'a [u8], out: &mut [u8]) -> Text
     ensures { λ r. ⌜ printing r (now (out .exit)) ≡ textOf answer (now (message .entry)) (now (reply .entry)) (now (out .entry)) ⌝ }
 {

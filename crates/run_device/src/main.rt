@@ -5,6 +5,8 @@ use hid::MainHid;
 use hid::MainReady;
 use hid::Running;
 use libc::STDOUT_FILENO;
+use report::hex;
+use report::text;
 
 fn main() {
     match MainHid::new(7609, true) {
@@ -100,14 +102,4 @@ fn asked(hid: MainHid, time: u64) {
             text(b"\n");
         }
     }
-}
-
-fn hex(data: &[u8]) {
-    for i in 0..data.len() {
-        io::print_hex(STDOUT_FILENO, data[i] as u64, 2);
-    }
-}
-
-fn text(t: &[u8]) {
-    io::write_all(STDOUT_FILENO, t);
 }

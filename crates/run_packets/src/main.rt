@@ -2,6 +2,8 @@
 use libc::STDOUT_FILENO;
 use packet::ProcessedPacket;
 use packet::Reading;
+use report::hex;
+use report::text;
 
 fn main() {
     text(b"the packets of the bench example\n");
@@ -61,14 +63,4 @@ fn show(p: ProcessedPacket) {
             io::print_decimal(STDOUT_FILENO, seq as u64);
         }
     }
-}
-
-fn hex(data: &[u8]) {
-    for i in 0..data.len() {
-        io::print_hex(STDOUT_FILENO, data[i] as u64, 2);
-    }
-}
-
-fn text(t: &[u8]) {
-    io::write_all(STDOUT_FILENO, t);
 }

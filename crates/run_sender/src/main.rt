@@ -2,6 +2,8 @@
 use libc::STDOUT_FILENO;
 use packet::CtapHidCommand;
 use packet::Limits;
+use report::hex;
+use report::text;
 use send::Written;
 
 fn main() {
@@ -70,14 +72,4 @@ fn show(wrote: Written, packet: &[u8]) -> bool {
             true
         }
     }
-}
-
-fn hex(data: &[u8]) {
-    for i in 0..data.len() {
-        io::print_hex(STDOUT_FILENO, data[i] as u64, 2);
-    }
-}
-
-fn text(t: &[u8]) {
-    io::write_all(STDOUT_FILENO, t);
 }

@@ -9,6 +9,7 @@ use hid::MessageAssembler;
 use hid::Ready;
 use hid::Running;
 use libc::STDOUT_FILENO;
+use report::text;
 
 const LAST: u64 = 1000;
 
@@ -397,8 +398,4 @@ fn as_it_came(unaltered: bool) {
     } else {
         text(b" ALTERED");
     }
-}
-
-fn text(t: &[u8]) {
-    io::write_all(STDOUT_FILENO, t);
 }

@@ -4,7 +4,8 @@ use lib.ListN.{take, length-take}
 use lib.Seq.{length-take-le}
 use Rattle.bench_lines.specs.Printing.{trimmed, packetLine}
 use Rattle.bench_lines.proofs.Placing.{put-both}
-use Rattle.bench_lines.proofs.Spelling.{hex-length, trimmed-length}
+use Rattle.bench_lines.proofs.Hex.{length-hex}
+use Rattle.bench_lines.proofs.Spelling.{trimmed-length}
 use borrow.Author.Needs.{needs}
 use Rattle.bench_lines.proofs.printing.put_packet.Statement.{statement}
 use Rattle.bench_lines.proofs.printing.put_packet.Tie as tie
@@ -33,7 +34,7 @@ put-requires-2 c κs =
     let at-shown = at-hex .before .before .before .before .before .before .before .before in
     let p = at-shown .before .before .before .args .packet .now in
     let shown = at-shown .shown-in .result in
-    omega (arith, hex-length (take shown p), length-take-le shown p (omega arith))
+    omega (arith, length-hex (take shown p), length-take-le shown p (omega arith))
 
 same-length : tie.Need-same-length
 same-length c = search needs
@@ -46,7 +47,7 @@ returns c =
     let at-put = at-hex .before .before .before .before .before in
     let at-shown = at-put .before .before .before in
     let p = at-shown .before .before .before .args .packet .now in
-    put-both (omega (arith, hex-length (trimmed p), trimmed-length p))
+    put-both (omega (arith, length-hex (trimmed p), trimmed-length p))
     (put-both (omega arith) (at-put .put .ensures) (rw (at-shown .shown-in .ensures .1) at (at-hex .put-hex .ensures)))
     (at-put2 .put2 .ensures)
 

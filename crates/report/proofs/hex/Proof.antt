@@ -4,8 +4,8 @@ use mathlib.Core.Path.{_≡_}
 use native.Mathlib.Omega.{arith}
 use borrow.Author.Needs.{needs}
 use lib.ListN.{length}
-use Rattle.run_device.proofs.hex.Statement.{statement}
-use Rattle.run_device.proofs.hex.Tie as tie
+use Rattle.report.proofs.hex.Statement.{statement}
+use Rattle.report.proofs.hex.Tie as tie
 
 abbrev Inv-loop : tie.InvT-loop
 Inv-loop «data» i₀ i-end i = (i ≤ i-end) × (i-end ≡ length «data»)
