@@ -1,4 +1,4 @@
--- A device whose lock never ends, and one whose transaction lives by other channels' packets, do not satisfy the demands. Assumes nothing.
+-- A device whose lock never ends, one whose lock ends a millisecond late, and one whose transaction lives by other channels' packets, do not satisfy the demands. Assumes nothing.
 use Prim.Native.Nat.{ℕ, zero, suc, _+_, _*_, _≤_}
 use native.Mathlib.Omega.{arith}
 use mathlib.Core.Path.{_≡_, refl, ap, sym, _∙_}
@@ -9,11 +9,11 @@ use borrow.Author.Tests.{le-ltb, lt-leb}
 use lib.ListN.{replicate}
 use Rattle.ctaphid.specs.Choice.{pick}
 use Rattle.ctaphid.specs.Packets.{channelIn, declaredIn, read}
-use Rattle.ctaphid.specs.Commands.{among}
+use Rattle.ctaphid.specs.Commands.{among, LOCK}
 use Rattle.ctaphid.specs.Receiver.{busy, collect, start, whenIdle, whenBusy, receive, isOn}
-use Rattle.ctaphid.specs.Transport.{Settings, Transport, free, Event, nothing, Next, next, isAllocated, isValid, isLockedBy, isLockedAgainst, isShut, nextChannel, onInit, lockFor, onLock, dispatch, settle, hear}
+use Rattle.ctaphid.specs.Transport.{Settings, Transport, free, Event, nothing, reply, Next, next, isAllocated, isValid, isLockedBy, isLockedAgainst, isShut, nextChannel, onInit, lockFor, onLock, dispatch, settle, hear}
 use Rattle.ctaphid.specs.Demands.{AnyDevice, Taken, latest, after, answer, Begun, Since, TransactionsEnd, Locked, Holding, LocksEnd, busyOn, HeldBy, NoneShutOut}
-use Rattle.ctaphid.specs.WrongBounds.{foreverLocked, anyPacketIsLife}
+use Rattle.ctaphid.specs.WrongBounds.{foreverLocked, lockedTooLong, anyPacketIsLife}
 use Rattle.ctaphid.proofs.InstancesBounds.{at, allBytes, proper, ping, begin, lock, settings, two, begun, begun-taken, locked, locked-taken}
 
 -- what a history tells of came no later than its latest event
@@ -54,6 +54,26 @@ forever-locked-shuts-out none =
     (λ s. omega (arith, begun-start foreverLocked settings (h .holder) locked (s .start) locked-taken (s .begun), s .within))
     (λ k. holding-ends foreverLocked (h .holder) k)
     (h .holds)
+
+-- ---- a lock that runs for a millisecond more
+
+lock-accepted : answer lockedTooLong settings two (at 5 (lock 1)) ≡ reply 1 LOCK []
+unfolding read channelIn declaredIn hear isShut settle dispatch among onInit onLock lockFor nextChannel isAllocated isValid isLockedAgainst receive whenIdle start collect pick
+lock-accepted = refl
+
+-- the lock taken at 5 was for 1 s
+locked-for : (k t : ℕ) → Locked lockedTooLong settings 1 locked k t → t + 1000 * k ≡ 1005
+locked-for k t (inl b) = omega (arith, b .0 .seconds, b .2)
+locked-for k t (inr b) = absurd (b .0 lock-accepted)
+
+locked-at-1005 : lockedTooLong .isLockedBy (after lockedTooLong settings locked) 1 1005 ≡ true
+unfolding read channelIn declaredIn hear isShut settle dispatch among onInit onLock lockFor nextChannel isAllocated isValid isLockedBy isLockedAgainst receive whenIdle start collect pick
+locked-at-1005 = refl
+
+pub locked-too-long-caught : LocksEnd lockedTooLong → ⊥
+locked-too-long-caught ends =
+    let h : Holding lockedTooLong settings 1 locked 1005 = ends settings (omega arith) locked locked-taken 1005 (omega arith) 1 locked-at-1005 in
+    omega (arith, h .within, locked-for (h .seconds) (h .start) (h .locked))
 
 -- ---- a transaction that lives by other channels' packets
 

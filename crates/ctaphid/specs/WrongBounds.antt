@@ -1,5 +1,5 @@
 -- Wrong devices, that what bounds transactions and locks must catch. Assumes nothing.
-use Prim.Native.Nat.{ℕ, _+_}
+use Prim.Native.Nat.{ℕ, _+_, _-_}
 use lib.Dec.{leb, eqb}
 use Rattle.ctaphid.specs.Choice.{pick}
 use Rattle.ctaphid.specs.Receiver.{Receiver, idle, busy, isOn}
@@ -21,6 +21,17 @@ foreverLocked =
       step = λ d e. stretch (step d e);
       isOn = λ d c time. isOn (d .receiver) c time;
       isLockedBy = λ d c time. isLockedBy (d .lock) c time;
+    }
+
+-- the standard's transport, but a lock runs for a millisecond more
+abbrev pub lockedTooLong : AnyDevice
+lockedTooLong =
+    record {
+      State = Transport;
+      setUp = fresh;
+      step = step;
+      isOn = λ d c time. isOn (d .receiver) c time;
+      isLockedBy = λ d c time. isLockedBy (d .lock) c (time - 1);
     }
 
 -- the standard's transport, but any packet of any channel that comes while a transaction is on gives it its time anew
