@@ -100,15 +100,10 @@ pub(crate) fn at_time(hid: CtapHid, time: u64) -> CtapHid
 pub(crate) fn with_assembler(hid: CtapHid, last: u64, assembler: MessageAssembler) -> CtapHid
     ensures { λ r. ⌜ r ≡ having hid last assembler ⌝ }
 {
-    CtapHid {
-        assembler,
-        lock: hid.lock,
-        last,
-        allocated: hid.allocated,
-        locked: hid.locked,
-        max: hid.max,
-        u2f: hid.u2f,
-    }
+    let mut next = hid;
+    next.assembler = assembler;
+    next.last = last;
+    next
 }
 
 // Checks 3 to 7.
