@@ -10,7 +10,7 @@ use host::HostEnv;
 use opensk::ctap::CtapState;
 use opensk::ctap::hid::{CtapHid, HidPacket};
 use opensk::ctap::main_hid::MainHid;
-use ours::{ECHO, MESSAGE, REPLY};
+use ours::{COLLECTED, ECHO, MESSAGE, REPLY};
 use std::hint::black_box;
 
 const LARGEST: usize = 7609;
@@ -30,6 +30,17 @@ struct Row {
     before: Vec<HidPacket>,
     /// One message.
     packets: Vec<HidPacket>,
+}
+
+impl Row {
+    /// Its message, with nothing before.
+    fn alone(&self) -> Row {
+        Row {
+            before: vec![],
+            packets: self.packets.clone(),
+            ..*self
+        }
+    }
 }
 
 fn rows() -> Vec<Row> {
@@ -185,6 +196,22 @@ impl<const DRAWN: bool> Side for OursDevice<DRAWN> {
     }
 }
 
+/// Our host reader, on the channel that the long message is on. OpenSK has none.
+struct OursHost {
+    collection: ours::Collection,
+    buffer: Vec<u8>,
+}
+
+impl Side for OursHost {
+    #[inline(always)]
+    fn step(&mut self, packet: &HidPacket, sink: &mut impl FnMut(&[u8])) {
+        let outcome = ours::host_read(&mut self.collection, 1, packet, &mut self.buffer);
+        if outcome.kind == COLLECTED {
+            sink(&self.buffer[..outcome.len]);
+        }
+    }
+}
+
 /// No protocol at all: each packet's data, 57 and then 59 bytes, is copied to its place.
 struct Copy {
     buffer: Vec<u8>,
@@ -282,17 +309,19 @@ fn run(job: &str, row: &Row, count: usize, sink: impl FnMut(&[u8])) {
         }
         "ours:device" => feed(ours_device::<false>(), row, count, sink),
         "ours:drawn" => feed(ours_device::<true>(), row, count, sink),
+        "ours:host" => {
+            let side = OursHost {
+                collection: ours::Collection::default(),
+                buffer: vec![0; LARGEST],
+            };
+            feed(side, &row.alone(), count, sink)
+        }
         "copy:received" => {
             let side = Copy {
                 buffer: vec![0; LARGEST],
                 at: 0,
             };
-            let row = Row {
-                before: vec![],
-                packets: row.packets.clone(),
-                ..*row
-            };
-            feed(side, &row, count, sink)
+            feed(side, &row.alone(), count, sink)
         }
         _ => panic!("no job {job}"),
     }
@@ -315,6 +344,12 @@ fn check(rows: &[Row]) {
     let mut copied = vec![];
     run("copy:received", long, 1, |bytes| copied = bytes.to_vec());
     run("ours:received", long, 1, |bytes| assert_eq!(bytes, copied));
+    let mut replies = 0;
+    run("ours:host", long, 3, |bytes| {
+        assert_eq!(bytes, copied);
+        replies += 1;
+    });
+    assert_eq!(replies, 3);
 }
 
 fn main() {
@@ -328,6 +363,7 @@ fn main() {
                         println!("{job}:{}", row.name);
                     }
                 }
+                println!("ours:host:ping-7609");
                 println!("copy:received:ping-7609");
             }
             _ => {
