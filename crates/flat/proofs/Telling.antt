@@ -27,8 +27,15 @@ use Rattle.hid.specs.declared.Ready.{Ready}
 use Rattle.hid.specs.declared.Ready.the-variants as ready
 use Rattle.hid.specs.declared.MainReady.{MainReady}
 use Rattle.hid.specs.declared.MainReady.the-variants as mainReady
+use Rattle.host.specs.Reading.{Reading as HostReading, reading as hostReading}
+use Rattle.host.specs.declared.Progress.{Progress}
+use Rattle.host.specs.declared.Answer.{Answer as HostAnswer}
+use Rattle.host.specs.declared.Answer.the-variants as host
+use Rattle.host.specs.declared.InitReply.{InitReply}
+use Rattle.host.specs.declared.InitAnswer.the-variants as init
 use Rattle.flat.specs.declared.Outcome.{Outcome}
-use Rattle.flat.specs.Telling.{told, refusedBy, outcomeOf, packetOutcome, readOutcome, countOutcome, runningNumber, writtenNumber, madeOf, mainMadeOf, flat, flatOf, mainFlat, mainFlatOf, put, putOf}
+use Rattle.flat.specs.declared.InitOutcome.{InitOutcome}
+use Rattle.flat.specs.Telling.{told, refusedBy, outcomeOf, packetOutcome, readOutcome, countOutcome, runningNumber, writtenNumber, madeOf, mainMadeOf, flat, flatOf, mainFlat, mainFlatOf, put, putOf, hostOutcomeOf, hostFlat, hostFlatOf, noFields, fieldsTold, initOutcomeOf}
 
 -- ---- an answer
 module _ (a : Answer) (x : Outcome) where
@@ -103,4 +110,31 @@ module _ {y : Count} (z : Count) (e : y ≡ z) (x : Outcome) where
 pub puts : (n : ℕ) (w : Written) (p : List ℕ) (y : Left) → left w p ≡ y → n ≡ writtenNumber w → put n p ≡ putOf y
 puts n w p y e k = ap (λ (t : ℕ). put t p) k ∙ ap putOf e
 
-pub ruleset telling = (tells-refused, tells-nothing, tells-message, tells-echo, tells-reply, steps-flat, main-steps-flat, runs, makes, makes-none, main-makes, main-makes-none, tells-first, tells-later, reads, reads-none, counts, counts-none, puts)
+-- ---- the host
+module _ (a : HostAnswer) (x : Outcome) where
+  pub tells-host-refused : {n : ℕ} → a ≡ host.Refused n → x ≡ refusedBy n → x ≡ hostOutcomeOf a
+  tells-host-refused e k = k ∙ sym (ap hostOutcomeOf e)
+
+  pub tells-ignored : a ≡ host.Ignored → x ≡ told 8 0 0 0 → x ≡ hostOutcomeOf a
+  tells-ignored e k = k ∙ sym (ap hostOutcomeOf e)
+
+  pub tells-keepalive : {status : ℕ} → a ≡ host.Keepalive status → x ≡ told 9 0 status 0 → x ≡ hostOutcomeOf a
+  tells-keepalive e k = k ∙ sym (ap hostOutcomeOf e)
+
+  pub tells-waiting : a ≡ host.Waiting → x ≡ told 10 0 0 0 → x ≡ hostOutcomeOf a
+  tells-waiting e k = k ∙ sym (ap hostOutcomeOf e)
+
+  pub tells-collected : {cmd len : ℕ} → a ≡ host.Reply cmd len → x ≡ told 11 0 cmd len → x ≡ hostOutcomeOf a
+  tells-collected e k = k ∙ sym (ap hostOutcomeOf e)
+
+pub host-flat : (s : Progress) (m : List ℕ) (o : Outcome) (y : HostReading) → hostReading s m ≡ y → o ≡ hostOutcomeOf (s .answer) → hostFlat (record { collection = s .collection; outcome = o }) m ≡ hostFlatOf y
+host-flat s m o y e k = ap (λ (t : Outcome). hostFlat (record { collection = s .collection; outcome = t }) m) k ∙ ap hostFlatOf e
+
+module _ (x y : InitReply) (e : x ≡ y) where
+  pub init-refused : (o : InitOutcome) {n : ℕ} → x .answer ≡ init.Refused n → o ≡ noFields n → o ≡ initOutcomeOf y
+  init-refused o k h = h ∙ (sym (ap (fieldsTold (x .nonce)) k) ∙ ap initOutcomeOf e)
+
+  pub init-told : {cid protocol major minor build capabilities : ℕ} → x .answer ≡ init.Fields cid protocol major minor build capabilities → fieldsTold (x .nonce) (init.Fields cid protocol major minor build capabilities) ≡ initOutcomeOf y
+  init-told k = sym (ap (fieldsTold (x .nonce)) k) ∙ ap initOutcomeOf e
+
+pub ruleset telling = (tells-refused, tells-nothing, tells-message, tells-echo, tells-reply, steps-flat, main-steps-flat, runs, makes, makes-none, main-makes, main-makes-none, tells-first, tells-later, reads, reads-none, counts, counts-none, puts, tells-host-refused, tells-ignored, tells-keepalive, tells-waiting, tells-collected, host-flat, init-refused, init-told)

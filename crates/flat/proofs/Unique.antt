@@ -1,7 +1,7 @@
 -- Each public contract of the C boundary leaves one outcome: what is returned, and the lent bytes at exit. Assumes nothing.
 use mathlib.Core.Path.{refl, sym, ap, _∙_}
 use Rattle.outcome.specs.One.{OneOutcome, from-facts}
-use Rattle.flat.specs.Telling.{Flattened, MainFlattened, Putting}
+use Rattle.flat.specs.Telling.{Flattened, MainFlattened, HostFlattened, Putting}
 use Rattle.flat.proofs.outcome_of as outcome-of
 use Rattle.flat.proofs.transport_step as transport-step
 use Rattle.flat.proofs.device_step as device-step
@@ -13,6 +13,8 @@ use Rattle.flat.proofs.read_packet as read-packet
 use Rattle.flat.proofs.packet_count as packet-count
 use Rattle.flat.proofs.write_packet as write-packet
 use Rattle.flat.proofs.split_message as split-message
+use Rattle.flat.proofs.host_read as host-read
+use Rattle.flat.proofs.init_reply as init-reply
 
 pub outcome-of-one : OneOutcome outcome-of.ended (λ M 𝓤. outcome-of.clauses 𝓤) (λ M 𝓤. outcome-of.spec 𝓤)
 outcome-of-one = record {
@@ -78,4 +80,16 @@ pub split-message-one : OneOutcome split-message.ended (λ M 𝓤. split-message
 split-message-one = record {
   stated = λ M 𝓤 H A mem run. refl;
   one = λ 𝓤 H A mem run κs a g x y v w. from-facts 𝓤 (λ p q. (ap (λ (o : Putting). o .number) (p ∙ sym q), λ i. (tt, (tt, (tt, (tt, (tt, ((p ∙ sym q) i .packet, tt))))))));
+}
+
+pub host-read-one : OneOutcome host-read.ended (λ M 𝓤. host-read.clauses 𝓤) (λ M 𝓤. host-read.spec 𝓤)
+host-read-one = record {
+  stated = λ M 𝓤 H A mem run. refl;
+  one = λ 𝓤 H A mem run κs a g x y v w. from-facts 𝓤 (λ p q. (ap (λ (o : HostFlattened). o .left) (p ∙ sym q), λ i. (tt, (tt, (tt, ((p ∙ sym q) i .buffer, tt))))));
+}
+
+pub init-reply-one : OneOutcome init-reply.ended (λ M 𝓤. init-reply.clauses 𝓤) (λ M 𝓤. init-reply.spec 𝓤)
+init-reply-one = record {
+  stated = λ M 𝓤 H A mem run. refl;
+  one = λ 𝓤 H A mem run κs a g x y v w. from-facts 𝓤 (λ p q. (p ∙ sym q, refl));
 }

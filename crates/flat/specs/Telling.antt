@@ -2,6 +2,7 @@
 use Prim.Native.Nat.{ℕ}
 use mathlib.Core.List.{List}
 use mathlib.Core.Bool.{Bool, not}
+use lib.ListN.{replicate}
 use lib.Dec.{eqb}
 use Rattle.ctaphid.specs.Commands.{number}
 use Rattle.ctaphid.specs.Packets.{initialization, continuation}
@@ -26,11 +27,19 @@ use Rattle.hid.specs.declared.Ready.{Ready}
 use Rattle.hid.specs.declared.Ready.the-variants as ready
 use Rattle.hid.specs.declared.MainReady.{MainReady}
 use Rattle.hid.specs.declared.MainReady.the-variants as mainReady
+use Rattle.host.specs.Reading.{Reading}
+use Rattle.host.specs.declared.Answer.{Answer as HostAnswer}
+use Rattle.host.specs.declared.Answer.the-variants as host
+use Rattle.host.specs.declared.InitReply.{InitReply}
+use Rattle.host.specs.declared.InitAnswer.{InitAnswer}
+use Rattle.host.specs.declared.InitAnswer.the-variants as init
 use Rattle.flat.specs.declared.Outcome.{Outcome}
 use Rattle.flat.specs.declared.FlatHid.{FlatHid}
 use Rattle.flat.specs.declared.FlatMain.{FlatMain}
 use Rattle.flat.specs.declared.MadeHid.{MadeHid}
 use Rattle.flat.specs.declared.MadeMain.{MadeMain}
+use Rattle.flat.specs.declared.FlatCollection.{FlatCollection}
+use Rattle.flat.specs.declared.InitOutcome.{InitOutcome}
 
 -- a flag of C: any number but 0 is set
 abbrev pub isSet : ℕ → Bool
@@ -117,3 +126,36 @@ put n p = record { number = n; packet = p }
 
 abbrev pub putOf : Left → Putting
 putOf x = put (writtenNumber (x .answer)) (x .packet)
+
+-- ---- the host. Kinds 8 to 11: what a packet brings about there
+abbrev pub hostOutcomeOf : HostAnswer → Outcome
+hostOutcomeOf (host.Refused n) = refusedBy n
+hostOutcomeOf host.Ignored = told 8 0 0 0
+hostOutcomeOf (host.Keepalive status) = told 9 0 status 0
+hostOutcomeOf host.Waiting = told 10 0 0 0
+hostOutcomeOf (host.Reply cmd len) = told 11 0 cmd len
+
+-- what is returned, and the buffer
+pub record HostFlattened : Type 0 where
+  pub left : FlatCollection
+  pub buffer : List ℕ
+
+abbrev pub hostFlat : FlatCollection → List ℕ → HostFlattened
+hostFlat x m = record { left = x; buffer = m }
+
+abbrev pub hostFlatOf : Reading → HostFlattened
+hostFlatOf x =
+    hostFlat (record { collection = x .progress .collection; outcome = hostOutcomeOf (x .progress .answer) }) (x .buffer)
+
+-- a reply to INIT: its fields, or the refusal and nothing else
+abbrev pub noFields : ℕ → InitOutcome
+noFields number =
+    record { cid = 0; protocol = 0; major = 0; minor = 0; build = 0; capabilities = 0; refusal = number; spare = 0; nonce = replicate 8 0 }
+
+abbrev pub fieldsTold : (nonce : List ℕ) → InitAnswer → InitOutcome
+fieldsTold nonce (init.Refused n) = noFields n
+fieldsTold nonce (init.Fields cid protocol major minor build capabilities) =
+    record { cid = cid; protocol = protocol; major = major; minor = minor; build = build; capabilities = capabilities; refusal = 0; spare = 0; nonce = nonce }
+
+abbrev pub initOutcomeOf : InitReply → InitOutcome
+initOutcomeOf x = fieldsTold (x .nonce) (x .answer)

@@ -5,6 +5,8 @@ use hid::MainHid;
 use hid::MainReady;
 use hid::Ready;
 use hid::Running;
+use host::Collection;
+use host::InitAnswer;
 use packet::ProcessedPacket;
 use packet::Reading;
 use send::Count;
@@ -13,9 +15,12 @@ ghost use mathlib.Core.Path.{_≡_};
 ghost use Rattle.hid.specs.Serving.{stepOf};
 ghost use Rattle.hid.specs.Outer.{mainStepOf};
 ghost use Rattle.hid.specs.Asking.{lockedOf, winkingOf, newOf, mainNewOf};
+ghost use Rattle.ctaphid.specs.Host.{initOf};
 ghost use Rattle.packet.specs.Reading.{readingOf};
+ghost use Rattle.host.specs.Meaning.{initReplyOf};
+ghost use Rattle.host.specs.Reading.{readOf};
 ghost use Rattle.send.specs.Sending.{countOf, writeOf, splitOf};
-ghost use Rattle.flat.specs.Telling.{isSet, outcomeOf, readOutcome, countOutcome, runningNumber, packetOutcome, writtenNumber, madeOf, mainMadeOf, flat, flatOf, mainFlat, mainFlatOf, put, putOf};
+ghost use Rattle.flat.specs.Telling.{isSet, outcomeOf, readOutcome, countOutcome, runningNumber, packetOutcome, writtenNumber, madeOf, mainMadeOf, flat, flatOf, mainFlat, mainFlatOf, put, putOf, hostOutcomeOf, hostFlat, hostFlatOf, initOutcomeOf, noFields};
 
 // Which fields of an outcome say something, by its kind. The others are 0.
 pub struct Kind;
@@ -43,6 +48,18 @@ impl Kind {
 
     // A count, in len.
     pub const COUNT: u8 = 7;
+
+    // Host: a packet of another channel, or a continuation with no reply begun.
+    pub const IGNORED: u8 = 8;
+
+    // Host: a KEEPALIVE, its status byte in cmd.
+    pub const KEEPALIVE: u8 = 9;
+
+    // Host: the packet is taken, and more is due.
+    pub const WAITING: u8 = 10;
+
+    // Host: a whole reply at the front of the buffer: cmd, len.
+    pub const COLLECTED: u8 = 11;
 }
 
 #[repr(C)]
@@ -257,5 +274,101 @@ fn written_number(written: Written) -> u8
     match written {
         Written::Packet => 0,
         Written::Refused(number) => number,
+    }
+}
+
+// ---- the host
+
+fn host_outcome(answer: host::Answer) -> Outcome
+    ensures { λ r. ⌜ r ≡ hostOutcomeOf answer ⌝ }
+{
+    match answer {
+        host::Answer::Refused(number) => refused(number),
+        host::Answer::Ignored => told(Kind::IGNORED, 0, 0, 0),
+        host::Answer::Keepalive(status) => told(Kind::KEEPALIVE, 0, status, 0),
+        host::Answer::Waiting => told(Kind::WAITING, 0, 0, 0),
+        host::Answer::Reply { cmd, len } => told(Kind::COLLECTED, 0, cmd, len),
+    }
+}
+
+pub struct FlatCollection {
+    pub collection: Collection,
+    pub outcome: Outcome,
+}
+
+pub fn host_read(
+    collection: Collection,
+    cid: u32,
+    packet: &[u8],
+    buffer: &mut [u8],
+) -> FlatCollection
+    ensures { λ r. ⌜ hostFlat r (now (buffer .exit)) ≡ hostFlatOf (readOf collection cid (now (packet .entry)) (now (buffer .entry))) ⌝ }
+{
+    let progress = collection.read(cid, packet, buffer);
+    let answer = progress.answer;
+    let outcome = host_outcome(answer);
+    let next = progress.collection;
+    FlatCollection {
+        collection: next,
+        outcome,
+    }
+}
+
+// The fields of a reply to INIT. refusal is 0, or 11, and then all else is 0.
+#[repr(C)]
+pub struct InitOutcome {
+    pub cid: u32,
+    pub protocol: u8,
+    pub major: u8,
+    pub minor: u8,
+    pub build: u8,
+    pub capabilities: u8,
+    pub refusal: u8,
+    pub spare: u16,
+    pub nonce: [u8; 8],
+}
+
+pub fn init_reply(cmd: u8, payload: &[u8]) -> InitOutcome
+    ensures { λ r. ⌜ r ≡ initOutcomeOf (initReplyOf (initOf cmd (now (payload .entry)))) ⌝ }
+{
+    let reply = host::init_reply(cmd, payload);
+    let nonce = reply.nonce;
+    let answer = reply.answer;
+    match answer {
+        InitAnswer::Refused(number) => no_fields(number),
+        InitAnswer::Fields {
+            cid,
+            protocol,
+            major,
+            minor,
+            build,
+            capabilities,
+        } => InitOutcome {
+            cid,
+            protocol,
+            major,
+            minor,
+            build,
+            capabilities,
+            refusal: 0,
+            spare: 0,
+            nonce,
+        },
+    }
+}
+
+fn no_fields(number: u8) -> InitOutcome
+    ensures { λ r. ⌜ r ≡ noFields number ⌝ }
+{
+    InitOutcome {
+        cid: 0,
+        protocol: 0,
+        major: 0,
+        minor: 0,
+        build: 0,
+        capabilities: 0,
+        refusal: number,
+        spare: 0,
+        nonce: [0; 8],
     }
 }

@@ -1,7 +1,7 @@
 -- Each entry's contract leaves one outcome: what it returns, and the state and the lent bytes at exit. Assumes nothing.
 use mathlib.Core.Path.{refl, sym, ap, _∙_}
 use Rattle.outcome.specs.One.{OneOutcome, from-facts}
-use Rattle.flat.specs.Telling.{Flattened, MainFlattened, Putting}
+use Rattle.flat.specs.Telling.{Flattened, MainFlattened, HostFlattened, Putting}
 use Rattle.flat.specs.declared.MadeHid.{MadeHid}
 use Rattle.flat.specs.declared.MadeMain.{MadeMain}
 use Rattle.snjofrask.proofs.snjofrask_transport_new as transport-new
@@ -14,6 +14,8 @@ use Rattle.snjofrask.proofs.snjofrask_read_packet as read-packet
 use Rattle.snjofrask.proofs.snjofrask_packet_count as packet-count
 use Rattle.snjofrask.proofs.snjofrask_write_packet as write-packet
 use Rattle.snjofrask.proofs.snjofrask_split_message as split-message
+use Rattle.snjofrask.proofs.snjofrask_host_read as host-read
+use Rattle.snjofrask.proofs.snjofrask_init_reply as init-reply
 
 pub snjofrask-transport-new-one : OneOutcome transport-new.ended (λ M 𝓤. transport-new.clauses 𝓤) (λ M 𝓤. transport-new.spec 𝓤)
 snjofrask-transport-new-one = record {
@@ -73,4 +75,16 @@ pub snjofrask-split-message-one : OneOutcome split-message.ended (λ M 𝓤. spl
 snjofrask-split-message-one = record {
   stated = λ M 𝓤 H A mem run. refl;
   one = λ 𝓤 H A mem run κs a g x y v w. from-facts 𝓤 (λ p q. (ap (λ (o : Putting). o .number) (p ∙ sym q), λ i. (tt, (tt, (tt, (tt, (tt, ((p ∙ sym q) i .packet, tt))))))));
+}
+
+pub snjofrask-host-read-one : OneOutcome host-read.ended (λ M 𝓤. host-read.clauses 𝓤) (λ M 𝓤. host-read.spec 𝓤)
+snjofrask-host-read-one = record {
+  stated = λ M 𝓤 H A mem run. refl;
+  one = λ 𝓤 H A mem run κs a g x y v w. from-facts 𝓤 (λ p q. (ap (λ (o : HostFlattened). o .left .outcome) (p ∙ sym q), λ i. ((p ∙ sym q) i .left .collection, (tt, (tt, ((p ∙ sym q) i .buffer, tt))))));
+}
+
+pub snjofrask-init-reply-one : OneOutcome init-reply.ended (λ M 𝓤. init-reply.clauses 𝓤) (λ M 𝓤. init-reply.spec 𝓤)
+snjofrask-init-reply-one = record {
+  stated = λ M 𝓤 H A mem run. refl;
+  one = λ 𝓤 H A mem run κs a g x y v w. from-facts 𝓤 (λ p q. (p ∙ sym q, refl));
 }

@@ -1,14 +1,19 @@
 // The static library's entries, for C and Rust. Each is thin over the same by value; flags are numbers, of which 0 is not set.
+use flat::InitOutcome;
 use flat::Outcome;
 use hid::CtapHid;
 use hid::MainHid;
+use host::Collection;
 ghost use mathlib.Core.Path.{_≡_};
 ghost use Rattle.hid.specs.Serving.{stepOf};
 ghost use Rattle.hid.specs.Outer.{mainStepOf};
 ghost use Rattle.hid.specs.Asking.{lockedOf, winkingOf, newOf, mainNewOf};
+ghost use Rattle.ctaphid.specs.Host.{initOf};
 ghost use Rattle.packet.specs.Reading.{readingOf};
+ghost use Rattle.host.specs.Meaning.{initReplyOf};
+ghost use Rattle.host.specs.Reading.{readOf};
 ghost use Rattle.send.specs.Sending.{countOf, writeOf, splitOf};
-ghost use Rattle.flat.specs.Telling.{isSet, readOutcome, countOutcome, runningNumber, madeOf, mainMadeOf, flat, flatOf, mainFlat, mainFlatOf, put, putOf};
+ghost use Rattle.flat.specs.Telling.{isSet, readOutcome, countOutcome, runningNumber, madeOf, mainMadeOf, flat, flatOf, mainFlat, mainFlatOf, put, putOf, hostFlat, hostFlatOf, initOutcomeOf};
 
 // ---- the transport: checks 1 to 7
 
@@ -125,4 +130,30 @@ pub extern "C" fn snjofrask_split_message(
     ensures { λ r. ⌜ put r (now (packet .exit)) ≡ putOf (splitOf cid cmd (now (payload .entry)) «internal_error» index (now (packet .entry))) ⌝ }
 {
     flat::split_message(cid, cmd, payload, internal_error, index, packet)
+}
+
+// ---- the host
+
+// A packet, read for channel cid. A fresh collection is all zeros. A packet that is refused, by 1, 3, 9 or 10, or ignored leaves the collection and the buffer
+// as they came.
+#[no_mangle]
+pub extern "C" fn snjofrask_host_read(
+    collection: &mut Collection,
+    cid: u32,
+    packet: &[u8],
+    buffer: &mut [u8],
+) -> Outcome
+    ensures { λ r. ⌜ hostFlat (record { collection = now (collection .exit); outcome = r }) (now (buffer .exit)) ≡ hostFlatOf (readOf (now (collection .entry)) cid (now (packet .entry)) (now (buffer .entry))) ⌝ }
+{
+    let progress = flat::host_read(*collection, cid, packet, buffer);
+    *collection = progress.collection;
+    progress.outcome
+}
+
+// The fields of a reply to INIT, from its command and payload, or refusal 11.
+#[no_mangle]
+pub extern "C" fn snjofrask_init_reply(cmd: u8, payload: &[u8]) -> InitOutcome
+    ensures { λ r. ⌜ r ≡ initOutcomeOf (initReplyOf (initOf cmd (now (payload .entry)))) ⌝ }
+{
+    flat::init_reply(cmd, payload)
 }

@@ -4,8 +4,8 @@ use crate::ours::{CtapHid, ECHO, MESSAGE, MessageAssembler, NOTHING, Outcome, RE
 
 pub const BROADCAST: u32 = 0xffff_ffff;
 
-/// Faults of a step, and of the three functions beside it.
-pub const FAULTS: [&str; 24] = [
+/// Faults of a step, and of the functions beside it.
+pub const FAULTS: [&str; 29] = [
     "first-number-1",
     "timer-99",
     "timer-101",
@@ -30,6 +30,11 @@ pub const FAULTS: [&str; 24] = [
     "sender-stale-bytes",
     "reader-length-swapped",
     "split-long-at-7610",
+    "host-number-1",
+    "host-any-channel",
+    "host-spare-bytes-written",
+    "init-channel-swapped",
+    "init-cbor-lost",
 ];
 
 #[derive(Clone, Debug)]

@@ -63,7 +63,7 @@ fn main() {
     driver.random(steps);
     let [nothing, handed, echoes, replies] = driver.kinds;
     println!(
-        "{} U2F, seed {seed}: {messages} messages split, {sequences} sequences ({exhaustive} steps), \
+        "{} U2F, seed {seed}: {messages} messages split and read, {sequences} sequences ({exhaustive} steps), \
          {steps} random steps: no difference",
         if U2F { "with" } else { "without" }
     );

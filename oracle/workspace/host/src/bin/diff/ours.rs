@@ -42,6 +42,30 @@ pub struct Outcome {
     pub spare: u8,
 }
 
+/// A host's reply that is being collected. A fresh one is all zeros.
+#[repr(C)]
+#[derive(Clone, Copy, Debug, Default, PartialEq, Eq)]
+pub struct Collection {
+    pub len: u16,
+    pub taken: u16,
+    pub cmd: u8,
+    pub seq: u8,
+}
+
+#[repr(C)]
+#[derive(Clone, Copy, Debug, Default, PartialEq, Eq)]
+pub struct InitOutcome {
+    pub cid: u32,
+    pub protocol: u8,
+    pub major: u8,
+    pub minor: u8,
+    pub build: u8,
+    pub capabilities: u8,
+    pub refusal: u8,
+    pub spare: u16,
+    pub nonce: [u8; 8],
+}
+
 pub const REFUSED: u8 = 0;
 pub const NOTHING: u8 = 1;
 pub const MESSAGE: u8 = 2;
@@ -50,15 +74,21 @@ pub const REPLY: u8 = 4;
 pub const FIRST: u8 = 5;
 pub const CONTINUATION: u8 = 6;
 pub const COUNT: u8 = 7;
+pub const IGNORED: u8 = 8;
+pub const KEEPALIVE: u8 = 9;
+pub const WAITING: u8 = 10;
+pub const COLLECTED: u8 = 11;
 
 // the sizes that the archive was compiled for
 const _: () = assert!(size_of::<MessageAssembler>() == 24);
 const _: () = assert!(size_of::<CtapHid>() == 56);
 const _: () = assert!(size_of::<MainHid>() == 64);
 const _: () = assert!(size_of::<Outcome>() == 16);
+const _: () = assert!(size_of::<Collection>() == 6);
+const _: () = assert!(size_of::<InitOutcome>() == 20);
 
 mod raw {
-    use super::{CtapHid, MainHid, Outcome};
+    use super::{Collection, CtapHid, InitOutcome, MainHid, Outcome};
 
     #[link(name = "snjofrask", kind = "static")]
     unsafe extern "C" {
@@ -109,6 +139,16 @@ mod raw {
             packet: *mut u8,
             packet_len: usize,
         ) -> u8;
+        pub fn snjofrask_host_read(
+            collection: *mut Collection,
+            cid: u32,
+            packet: *const u8,
+            packet_len: usize,
+            buffer: *mut u8,
+            buffer_len: usize,
+        ) -> Outcome;
+        pub fn snjofrask_init_reply(cmd: u8, payload: *const u8, payload_len: usize)
+        -> InitOutcome;
     }
 }
 
@@ -222,4 +262,26 @@ pub fn split_message(
             packet.len(),
         )
     }
+}
+
+pub fn host_read(
+    collection: &mut Collection,
+    cid: u32,
+    packet: &[u8],
+    buffer: &mut [u8],
+) -> Outcome {
+    unsafe {
+        raw::snjofrask_host_read(
+            collection,
+            cid,
+            packet.as_ptr(),
+            packet.len(),
+            buffer.as_mut_ptr(),
+            buffer.len(),
+        )
+    }
+}
+
+pub fn init_reply(cmd: u8, payload: &[u8]) -> InitOutcome {
+    unsafe { raw::snjofrask_init_reply(cmd, payload.as_ptr(), payload.len()) }
 }

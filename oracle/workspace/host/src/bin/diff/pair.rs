@@ -1,5 +1,5 @@
 //! OpenSK and ours, side by side: each step goes through both, and all that can be seen is compared.
-use crate::definition::{Definition, Effect};
+use crate::definition::{BROADCAST, Definition, Effect};
 use crate::ours::{self, ECHO, MESSAGE, NOTHING, Outcome, REPLY};
 use host::{HostEnv, Timer};
 use opensk::ctap::CtapState;
@@ -273,6 +273,21 @@ impl Pair {
         let handed_out = our_inner.kind == MESSAGE;
         let is_for_above = wanted.is_some_and(|m| [3, 8, 16].contains(&m.1));
         same!("handed out by the transport", is_for_above, handed_out);
+        if let Some((cid, cmd, payload)) = wanted {
+            // what OpenSK put into a reply to INIT, told without that reply
+            let fields = (cmd == 6).then(|| ours::InitOutcome {
+                cid: match cid {
+                    BROADCAST => self.inner.oracle_peek().allocated_cids,
+                    _ => cid,
+                },
+                protocol: 2,
+                major: 1,
+                capabilities: if U2F { 5 } else { 13 },
+                nonce: packet[7..15].try_into().unwrap(),
+                ..Default::default()
+            });
+            init(cmd, payload, fields, self.fault)?;
+        }
 
         // the device's answer
         let mut payload = match our_outer.kind {
@@ -526,8 +541,8 @@ pub fn send(cid: u32, cmd: u8, payload: &[u8], fault: &str) -> Result<(), String
             same!("a packet not written", [0x5a; 64], packet);
         }
         Some(all) => {
-            let mut written = 0;
-            for (index, wanted) in all.enumerate() {
+            let all: Vec<_> = all.collect();
+            for (index, &wanted) in all.iter().enumerate() {
                 let mut packet = [0x5a; 64];
                 same!(
                     "writing",
@@ -535,10 +550,177 @@ pub fn send(cid: u32, cmd: u8, payload: &[u8], fault: &str) -> Result<(), String
                     ours::write_packet(cid, cmd, payload, index, &mut packet)
                 );
                 same!("packet by index", wanted, packet);
-                written += 1;
             }
-            same!("count", (ours::COUNT, written), (count.kind, count.len));
+            same!("count", (ours::COUNT, all.len()), (count.kind, count.len));
+            for space in [payload.len(), payload.len() + 3] {
+                collect(cid, cmd, payload, &all, space, fault)?;
+            }
         }
+    }
+    let fields = (payload.len() == 17).then(|| ours::InitOutcome {
+        cid: u32::from_be_bytes(payload[8..12].try_into().unwrap()),
+        protocol: payload[12],
+        major: payload[13],
+        minor: payload[14],
+        build: payload[15],
+        capabilities: payload[16],
+        nonce: payload[..8].try_into().unwrap(),
+        ..Default::default()
+    });
+    init(6, payload, fields, fault)
+}
+
+/// Our reading of a reply to INIT. Without fields it is none, and is refused with 11.
+fn init(
+    cmd: u8,
+    payload: &[u8],
+    fields: Option<ours::InitOutcome>,
+    fault: &str,
+) -> Result<(), String> {
+    let wanted = fields.unwrap_or(ours::InitOutcome {
+        refusal: 11,
+        ..Default::default()
+    });
+    let mut told = ours::init_reply(cmd, payload);
+    match fault {
+        "init-channel-swapped" => told.cid = told.cid.swap_bytes(),
+        "init-cbor-lost" => told.capabilities &= !4,
+        _ => (),
+    }
+    same!("fields of a reply to INIT", wanted, told);
+    Ok(())
+}
+
+/// Our host's side: a collection, and its buffer beside what that must hold.
+struct Host<'a> {
+    cid: u32,
+    collection: ours::Collection,
+    buffer: Lent,
+    wanted: Lent,
+    fault: &'a str,
+}
+
+impl Host<'_> {
+    fn new(cid: u32, space: usize, fault: &str) -> Host<'_> {
+        Host {
+            cid,
+            collection: Default::default(),
+            buffer: Lent::new(space, 0x5a),
+            wanted: Lent::new(space, 0x5a),
+            fault,
+        }
+    }
+
+    /// A packet, the outcome that it must have, and the collection that it must leave.
+    fn read(
+        &mut self,
+        packet: &HidPacket,
+        wanted: Outcome,
+        left: ours::Collection,
+    ) -> Result<(), String> {
+        let mut packet = *packet;
+        let mut cid = self.cid;
+        match self.fault {
+            "host-number-1" if packet[4] < 128 => packet[4] = packet[4].wrapping_sub(1) & 127,
+            "host-any-channel" => cid = u32::from_be_bytes(packet[..4].try_into().unwrap()),
+            _ => (),
+        }
+        let outcome = ours::host_read(&mut self.collection, cid, &packet, self.buffer.part());
+        if self.fault == "host-spare-bytes-written" && outcome.kind == ours::COLLECTED {
+            self.buffer.write(outcome.len, &[0]);
+        }
+        same!("host: answer", wanted, outcome);
+        same!("host: collection", left, self.collection);
+        if self.wanted.bytes != self.buffer.bytes {
+            return Err("host: the buffer is not what the definition says".to_string());
+        }
+        Ok(())
+    }
+
+    /// A packet that leaves the collection as it is.
+    fn pass(&mut self, packet: &HidPacket, wanted: Outcome) -> Result<(), String> {
+        self.read(packet, wanted, self.collection)
+    }
+}
+
+fn refused(refusal: u8) -> Outcome {
+    Outcome {
+        refusal,
+        ..Default::default()
+    }
+}
+
+fn heard(kind: u8, cmd: u8, len: usize) -> Outcome {
+    Outcome {
+        kind,
+        cmd,
+        len,
+        ..Default::default()
+    }
+}
+
+/// OpenSK's packets of a message, through our host reader: the message comes back, whole, at the last
+/// one. Packets of another channel come before each, a KEEPALIVE of OpenSK's and a continuation
+/// before the first, and inside the reply what must be refused. The buffer has `space` bytes.
+fn collect(
+    cid: u32,
+    cmd: u8,
+    payload: &[u8],
+    all: &[HidPacket],
+    space: usize,
+    fault: &str,
+) -> Result<(), String> {
+    let ignored = heard(ours::IGNORED, 0, 0);
+    let another = |packet: &HidPacket| {
+        let mut packet = *packet;
+        packet[..4].copy_from_slice(&(cid ^ 1).to_be_bytes());
+        packet
+    };
+    let keepalive = CtapHid::<HostEnv>::keepalive(cid.to_be_bytes(), KeepaliveStatus::UpNeeded)
+        .next()
+        .unwrap();
+    let mut host = Host::new(cid, space, fault);
+    let mut taken = 0;
+    for (index, packet) in all.iter().enumerate() {
+        host.pass(&another(packet), ignored)?;
+        host.pass(&another(&keepalive), ignored)?;
+        let mut next = *packet;
+        next[4] = index as u8 & 127;
+        if taken == 0 {
+            host.pass(&keepalive, heard(ours::KEEPALIVE, 2, 0))?;
+            host.pass(&next, ignored)?;
+        } else {
+            host.pass(&keepalive, refused(9))?;
+            host.pass(&all[0], refused(9))?;
+            host.pass(&next, refused(9))?;
+        }
+        // no reply, and not of one byte
+        if cmd == 59 {
+            let wanted = if index == 0 { refused(10) } else { ignored };
+            host.pass(packet, wanted)?;
+            continue;
+        }
+        let data = &packet[if index == 0 { 7 } else { 5 }..];
+        let data = &data[..data.len().min(payload.len() - taken)];
+        host.wanted.write(taken, data);
+        taken += data.len();
+        if taken < payload.len() {
+            let left = ours::Collection {
+                len: payload.len() as u16,
+                taken: taken as u16,
+                cmd,
+                seq: index as u8,
+            };
+            host.read(packet, heard(ours::WAITING, 0, 0), left)?;
+        } else {
+            let wanted = heard(ours::COLLECTED, cmd, payload.len());
+            host.read(packet, wanted, Default::default())?;
+            same!("host: message", payload, host.buffer.front(payload.len()));
+        }
+    }
+    // a buffer that is a byte too short
+    if cmd != 59 && payload.len() == space && space > 0 {
+        Host::new(cid, space - 1, fault).pass(&all[0], refused(10))?;
     }
     Ok(())
 }

@@ -1,0 +1,73 @@
+//! CTAPHID: FIDO messages over USB HID in packets of 64 bytes.
+//!
+//! A safe interface over Snjofrask's archive, whose every function is proved (`docs/PROMISES.md` in its repository).
+//! Nothing here allocates or panics, and there are no globals: a state is a value of the caller's, which holds the
+//! buffer that it was lent. The names are those of OpenSK's `CtapHid` and `MainHid`. What differs:
+//!
+//! - Time is an argument: whole milliseconds from any beginning, which never go back.
+//! - Payloads are slices, of the buffer that the caller lent at set-up or of the caller's own.
+//! - A call that makes no sense is refused: [`Refusal`].
+//! - MSG and CBOR come back to the caller, who sends the whole answer by [`CtapHid::split_message`].
+//!
+//! A device:
+//!
+//! ```
+//! use snjofrask::{CtapHid, CtapHidCommand, MainHid, Message, Processed};
+//!
+//! let mut buffer = [0; 1024];
+//! let mut device = MainHid::new(&mut buffer, true)?;
+//! let mut sent = Vec::new();
+//!
+//! // a host asks for a channel, and then what this device is: CBOR with the one byte 4
+//! let mut init = [0; 64];
+//! init[..7].copy_from_slice(&[0xFF, 0xFF, 0xFF, 0xFF, 0x86, 0, 8]);
+//! let mut cbor = [0; 64];
+//! cbor[..8].copy_from_slice(&[0, 0, 0, 1, 0x90, 0, 1, 4]);
+//!
+//! for (time_ms, packet) in [(0, init), (5, cbor)] {
+//!     match device.process_hid_packet(time_ms, &packet, false)? {
+//!         Processed::Packets(packets) => sent.extend(packets),
+//!         Processed::Request(request) => {
+//!             assert_eq!((request.cmd, request.payload), (CtapHidCommand::Cbor, &[4][..]));
+//!             let answer = Message { payload: &[0x01], ..request };
+//!             sent.extend(CtapHid::split_message(answer));
+//!         }
+//!     }
+//! }
+//! assert_eq!(sent[0][..7], [0xFF, 0xFF, 0xFF, 0xFF, 0x86, 0, 17]);
+//! assert_eq!(sent[0][15..24], [0, 0, 0, 1, 2, 1, 0, 0, 5]);
+//! assert_eq!(sent[1][..9], [0, 0, 0, 1, 0x90, 0, 1, 0x01, 0]);
+//! # Ok::<(), snjofrask::Refusal>(())
+//! ```
+//!
+//! The archive is for x86-64. `rt staticlib snjofrask` in the repository writes it; the environment variable
+//! `SNJOFRASK_LIB` names its folder if it is elsewhere. It uses the 128 bytes below the stack pointer, so an
+//! interrupt handler on the same stack has to skip them.
+#![no_std]
+#![deny(missing_docs, unsafe_code)]
+
+#[cfg(not(target_arch = "x86_64"))]
+compile_error!("the archive is for x86-64");
+
+mod hid;
+mod host;
+mod main_hid;
+mod message;
+#[allow(unsafe_code)]
+mod raw;
+mod send;
+
+pub use hid::{CtapHid, Parsed};
+pub use host::{Collection, InitReply, Progress, init_reply};
+pub use main_hid::{MainHid, Processed};
+pub use message::{
+    CHANNEL_BROADCAST, ChannelID, CtapHidCommand, CtapHidError, HidPacket, KeepaliveStatus,
+    Message, ProcessedPacket, Refusal,
+};
+pub use send::HidPacketIterator;
+
+/// The largest payload of a message, in bytes.
+pub const LARGEST_PAYLOAD: usize = 7609;
+
+/// The latest time, in milliseconds.
+pub const LAST_TIME_MS: u64 = 0xFFFF_FFFF_FFFF;

@@ -1,0 +1,109 @@
+//! The device: the transport, and the wink.
+use crate::hid::{CtapHid, Parsed, SHORT_REPLY_SIZE, parsed, running};
+use crate::message::{HidPacket, Message, Refusal};
+use crate::raw;
+use crate::send::HidPacketIterator;
+
+/// What a packet brings about.
+#[derive(Clone, Debug)]
+pub enum Processed<'a> {
+    /// Packets to be sent, or none.
+    Packets(HidPacketIterator<'a>),
+    /// MSG or CBOR for the caller to answer, on the same channel with the same command, by
+    /// [`CtapHid::split_message`]. The payload stands in the device's buffer until the next packet.
+    Request(Message<'a>),
+}
+
+/// A device: all of CTAPHID but what MSG and CBOR mean.
+#[derive(Debug)]
+pub struct MainHid<'b> {
+    state: raw::MainHid,
+    message: &'b mut [u8],
+    reply: [u8; SHORT_REPLY_SIZE],
+}
+
+impl<'b> MainHid<'b> {
+    /// A fresh device. Messages are put together in `message`, and its length is the largest that is taken. Without
+    /// U2F (`ctap1`) it answers MSG itself, with an error.
+    /// A buffer of more than 7,609 bytes is refused.
+    pub fn new(message: &'b mut [u8], ctap1: bool) -> Result<MainHid<'b>, Refusal> {
+        let mut state = raw::MainHid::default();
+        match raw::device_new(&mut state, message.len(), ctap1) {
+            0 => Ok(MainHid {
+                state,
+                message,
+                reply: [0; SHORT_REPLY_SIZE],
+            }),
+            number => Err(Refusal::numbered(number)),
+        }
+    }
+
+    /// A packet that came at a time. While the transport is disabled every allocated channel is told that it is busy.
+    ///
+    /// The example at the top of this crate answers a request. A message of two packets, too slow:
+    ///
+    /// ```
+    /// use snjofrask::{CHANNEL_BROADCAST, CtapHid, CtapHidCommand, MainHid, Message, Processed, Refusal};
+    ///
+    /// let mut buffer = [0; 100];
+    /// let mut device = MainHid::new(&mut buffer, false)?;
+    /// let init = Message { cid: CHANNEL_BROADCAST, cmd: CtapHidCommand::Init, payload: &[0; 8] };
+    /// let ping = Message { cid: [0, 0, 0, 1], cmd: CtapHidCommand::Ping, payload: &[0; 58] };
+    /// let mut sent = Vec::new();
+    /// for (time_ms, packet) in [0, 10, 110].into_iter().zip([init, ping].into_iter().flat_map(CtapHid::split_message)) {
+    ///     let Processed::Packets(packets) = device.process_hid_packet(time_ms, &packet, false)? else { panic!() };
+    ///     sent.push(packets.collect::<Vec<_>>());
+    /// }
+    /// assert_eq!(sent[0][0][23], 13);
+    /// assert!(sent[1].is_empty());
+    /// assert_eq!(sent[2][0][..8], [0, 0, 0, 1, 0xBF, 0, 1, 5]);
+    /// # Ok::<(), Refusal>(())
+    /// ```
+    pub fn process_hid_packet(
+        &mut self,
+        time_ms: u64,
+        packet: &HidPacket,
+        is_transport_disabled: bool,
+    ) -> Result<Processed<'_>, Refusal> {
+        let outcome = raw::device_step(
+            &mut self.state,
+            time_ms,
+            is_transport_disabled,
+            packet,
+            self.message,
+            &mut self.reply,
+        );
+        Ok(match parsed(outcome, self.message, &self.reply)? {
+            Parsed::Nothing => Processed::Packets(HidPacketIterator::none()),
+            Parsed::Message(message) => Processed::Request(message),
+            Parsed::Reply(message) => Processed::Packets(CtapHid::split_message(message)),
+        })
+    }
+
+    /// Whether a channel holds a lock at a time. The question alters nothing.
+    pub fn has_channel_lock(&self, time_ms: u64) -> Result<bool, Refusal> {
+        running(raw::is_locked(&self.state.hid, time_ms))
+    }
+
+    /// Whether a wink runs at a time. The question alters nothing.
+    ///
+    /// ```
+    /// use snjofrask::{CHANNEL_BROADCAST, CtapHid, CtapHidCommand, MainHid, Message, Refusal};
+    ///
+    /// let mut buffer = [0; 100];
+    /// let mut device = MainHid::new(&mut buffer, true)?;
+    /// let init = Message { cid: CHANNEL_BROADCAST, cmd: CtapHidCommand::Init, payload: &[0; 8] };
+    /// let wink = Message { cid: [0, 0, 0, 1], cmd: CtapHidCommand::Wink, payload: &[] };
+    /// for packet in [init, wink].into_iter().flat_map(CtapHid::split_message) {
+    ///     device.process_hid_packet(100, &packet, false)?;
+    /// }
+    /// assert_eq!(device.should_wink(5099), Ok(true));
+    /// assert_eq!(device.should_wink(5100), Ok(false));
+    /// assert_eq!(device.should_wink(99), Err(Refusal::Time));
+    /// assert_eq!(device.has_channel_lock(100), Ok(false));
+    /// # Ok::<(), Refusal>(())
+    /// ```
+    pub fn should_wink(&self, time_ms: u64) -> Result<bool, Refusal> {
+        running(raw::is_winking(&self.state, time_ms))
+    }
+}

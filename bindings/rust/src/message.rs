@@ -1,0 +1,202 @@
+//! Messages and their parts.
+
+/// A packet.
+pub type HidPacket = [u8; 64];
+
+/// A channel, as it stands in a packet.
+pub type ChannelID = [u8; 4];
+
+/// The channel on which a host asks for one of its own.
+pub const CHANNEL_BROADCAST: ChannelID = [0xFF; 4];
+
+/// The commands.
+#[derive(Clone, Copy, Debug, PartialEq, Eq)]
+pub enum CtapHidCommand {
+    /// Echoed.
+    Ping = 0x01,
+    /// U2F.
+    Msg = 0x03,
+    /// Keeps other channels out for some seconds.
+    Lock = 0x04,
+    /// Asks for a channel, or gets one in step again.
+    Init = 0x06,
+    /// Asks for a visible sign.
+    Wink = 0x08,
+    /// CTAP2.
+    Cbor = 0x10,
+    /// Gives a request up.
+    Cancel = 0x11,
+    /// Not done yet.
+    Keepalive = 0x3B,
+    /// An error, and any number that is not listed.
+    Error = 0x3F,
+}
+
+impl From<u8> for CtapHidCommand {
+    fn from(cmd: u8) -> Self {
+        match cmd {
+            0x01 => CtapHidCommand::Ping,
+            0x03 => CtapHidCommand::Msg,
+            0x04 => CtapHidCommand::Lock,
+            0x06 => CtapHidCommand::Init,
+            0x08 => CtapHidCommand::Wink,
+            0x10 => CtapHidCommand::Cbor,
+            0x11 => CtapHidCommand::Cancel,
+            0x3B => CtapHidCommand::Keepalive,
+            _ => CtapHidCommand::Error,
+        }
+    }
+}
+
+/// The errors that a device tells, in the one byte of an ERROR.
+#[derive(Clone, Copy, Debug, PartialEq, Eq)]
+pub enum CtapHidError {
+    /// No command for this device.
+    InvalidCmd = 0x01,
+    /// A parameter out of its range.
+    InvalidPar = 0x02,
+    /// A length that the command doesn't have, or above the maximum.
+    InvalidLen = 0x03,
+    /// Another packet was due.
+    InvalidSeq = 0x04,
+    /// The message took too long.
+    MsgTimeout = 0x05,
+    /// Another channel has the device.
+    ChannelBusy = 0x06,
+    /// No such channel is allocated.
+    InvalidChannel = 0x0B,
+}
+
+impl CtapHidError {
+    pub(crate) fn payload(self) -> &'static [u8] {
+        match self {
+            CtapHidError::InvalidCmd => &[0x01],
+            CtapHidError::InvalidPar => &[0x02],
+            CtapHidError::InvalidLen => &[0x03],
+            CtapHidError::InvalidSeq => &[0x04],
+            CtapHidError::MsgTimeout => &[0x05],
+            CtapHidError::ChannelBusy => &[0x06],
+            CtapHidError::InvalidChannel => &[0x0B],
+        }
+    }
+}
+
+/// Why a device is not done yet.
+#[derive(Clone, Copy, Debug, PartialEq, Eq)]
+pub enum KeepaliveStatus {
+    /// It works.
+    Processing = 0x01,
+    /// It waits for a touch.
+    UpNeeded = 0x02,
+}
+
+impl KeepaliveStatus {
+    pub(crate) fn payload(self) -> &'static [u8] {
+        match self {
+            KeepaliveStatus::Processing => &[0x01],
+            KeepaliveStatus::UpNeeded => &[0x02],
+        }
+    }
+}
+
+/// A whole message: a request or a reply.
+#[derive(Clone, Copy, Debug, PartialEq, Eq)]
+pub struct Message<'a> {
+    /// Its channel.
+    pub cid: ChannelID,
+    /// Its command.
+    pub cmd: CtapHidCommand,
+    /// Its bytes.
+    pub payload: &'a [u8],
+}
+
+/// What a packet says, read by itself.
+#[derive(Clone, Copy, Debug, PartialEq, Eq)]
+pub enum ProcessedPacket<'a> {
+    /// The first packet of a message.
+    InitPacket {
+        /// The command, below 128, as it stands in the packet.
+        cmd: u8,
+        /// The declared length.
+        len: usize,
+        /// The packet's own data.
+        data: &'a [u8; 57],
+    },
+    /// A further packet.
+    ContinuationPacket {
+        /// Its number.
+        seq: u8,
+        /// The packet's own data.
+        data: &'a [u8; 59],
+    },
+}
+
+/// Why a call was refused. It has altered nothing.
+#[derive(Clone, Copy, Debug, PartialEq, Eq)]
+pub enum Refusal {
+    /// A packet that isn't 64 bytes. No call of this crate can have one.
+    PacketSize = 1,
+    /// A buffer that is too short. No call of this crate can have one.
+    ShortBuffer = 2,
+    /// A state that makes no sense. None that this crate makes is such.
+    Unsound = 3,
+    /// A time above [`LAST_TIME_MS`](crate::LAST_TIME_MS), or before an earlier one.
+    Time = 4,
+    /// Set-up with a buffer of more than [`LARGEST_PAYLOAD`](crate::LARGEST_PAYLOAD) bytes.
+    Maximum = 5,
+    /// A packet past a message's last.
+    Index = 6,
+    /// A payload of more than [`LARGEST_PAYLOAD`](crate::LARGEST_PAYLOAD) bytes.
+    LongPayload = 7,
+    /// A PING that is too long to be echoed. None that a device takes is.
+    LongPing = 8,
+    /// Host: a packet with a wrong number, or a first packet inside a reply.
+    Sequence = 9,
+    /// Host: a reply that the buffer can't hold, or a KEEPALIVE not of one byte.
+    LongReply = 10,
+    /// Host: not a reply to INIT of exactly 17 bytes.
+    NotInit = 11,
+    /// A command above 127. No call of this crate can have one.
+    Command = 12,
+}
+
+impl Refusal {
+    // the archive gives no other number
+    pub(crate) fn numbered(number: u8) -> Refusal {
+        match number {
+            1 => Refusal::PacketSize,
+            2 => Refusal::ShortBuffer,
+            4 => Refusal::Time,
+            5 => Refusal::Maximum,
+            6 => Refusal::Index,
+            7 => Refusal::LongPayload,
+            8 => Refusal::LongPing,
+            9 => Refusal::Sequence,
+            10 => Refusal::LongReply,
+            11 => Refusal::NotInit,
+            12 => Refusal::Command,
+            _ => Refusal::Unsound,
+        }
+    }
+}
+
+impl core::fmt::Display for Refusal {
+    fn fmt(&self, f: &mut core::fmt::Formatter<'_>) -> core::fmt::Result {
+        f.write_str(match self {
+            Refusal::PacketSize => "a packet that isn't 64 bytes",
+            Refusal::ShortBuffer => "a buffer that is too short",
+            Refusal::Unsound => "a state that makes no sense",
+            Refusal::Time => "a time that is too late or goes back",
+            Refusal::Maximum => "a maximum above 7,609 bytes",
+            Refusal::Index => "a packet past the last",
+            Refusal::LongPayload => "a payload above 7,609 bytes",
+            Refusal::LongPing => "a PING above 7,609 bytes",
+            Refusal::Sequence => "a packet out of order",
+            Refusal::LongReply => "a reply that the buffer can't hold",
+            Refusal::NotInit => "not a reply to INIT",
+            Refusal::Command => "a command above 127",
+        })
+    }
+}
+
+impl core::error::Error for Refusal {}

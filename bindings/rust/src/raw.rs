@@ -1,0 +1,247 @@
+//! The archive's entries, as `include/snjofrask.h` has them, each behind a safe function: Rust's borrow rules give
+//! what they need, valid and aligned parts that don't overlap. `snjofrask_write_packet` is left out: what it writes,
+//! `snjofrask_split_message` writes too.
+
+// All states and answers are numbers without padding.
+
+#[repr(C)]
+#[derive(Clone, Copy, Debug, Default)]
+pub struct MessageAssembler {
+    deadline: u64,
+    cid: u32,
+    len: u32,
+    taken: u32,
+    cmd: u16,
+    seq: u16,
+}
+
+#[repr(C)]
+#[derive(Clone, Copy, Debug, Default)]
+pub struct CtapHid {
+    assembler: MessageAssembler,
+    lock: u64,
+    last: u64,
+    allocated: u32,
+    locked: u32,
+    max: u32,
+    u2f: u32,
+}
+
+#[repr(C)]
+#[derive(Clone, Copy, Debug, Default)]
+pub struct MainHid {
+    pub hid: CtapHid,
+    wink: u64,
+}
+
+#[repr(C)]
+#[derive(Clone, Copy, Debug, Default)]
+pub struct Collection {
+    len: u16,
+    taken: u16,
+    cmd: u8,
+    seq: u8,
+}
+
+#[repr(C)]
+pub struct Outcome {
+    pub len: usize,
+    pub cid: u32,
+    pub kind: u8,
+    pub cmd: u8,
+    pub refusal: u8,
+    spare: u8,
+}
+
+#[repr(C)]
+pub struct InitOutcome {
+    pub cid: u32,
+    pub protocol: u8,
+    pub major: u8,
+    pub minor: u8,
+    pub build: u8,
+    pub capabilities: u8,
+    pub refusal: u8,
+    spare: u16,
+    pub nonce: [u8; 8],
+}
+
+const _: () = assert!(size_of::<MessageAssembler>() == 24 && size_of::<CtapHid>() == 56);
+const _: () = assert!(size_of::<MainHid>() == 64 && size_of::<Collection>() == 6);
+const _: () = assert!(size_of::<Outcome>() == 16 && size_of::<InitOutcome>() == 20);
+
+pub mod kind {
+    pub const REFUSED: u8 = 0;
+    pub const MESSAGE: u8 = 2;
+    pub const ECHO: u8 = 3;
+    pub const REPLY: u8 = 4;
+    pub const FIRST: u8 = 5;
+    pub const KEEPALIVE: u8 = 9;
+    pub const WAITING: u8 = 10;
+    pub const COLLECTED: u8 = 11;
+}
+
+#[link(name = "snjofrask", kind = "static")]
+unsafe extern "C" {
+    fn snjofrask_transport_new(hid: *mut CtapHid, max: usize, u2f: u8) -> u8;
+    fn snjofrask_transport_step(
+        hid: *mut CtapHid,
+        time: u64,
+        disabled: u8,
+        packet: *const u8,
+        packet_len: usize,
+        message: *mut u8,
+        message_len: usize,
+        reply: *mut u8,
+        reply_len: usize,
+    ) -> Outcome;
+    fn snjofrask_is_locked(hid: *const CtapHid, time: u64) -> u8;
+    fn snjofrask_device_new(hid: *mut MainHid, max: usize, u2f: u8) -> u8;
+    fn snjofrask_device_step(
+        hid: *mut MainHid,
+        time: u64,
+        disabled: u8,
+        packet: *const u8,
+        packet_len: usize,
+        message: *mut u8,
+        message_len: usize,
+        reply: *mut u8,
+        reply_len: usize,
+    ) -> Outcome;
+    fn snjofrask_is_winking(hid: *const MainHid, time: u64) -> u8;
+    fn snjofrask_read_packet(packet: *const u8, packet_len: usize) -> Outcome;
+    fn snjofrask_packet_count(len: usize) -> Outcome;
+    fn snjofrask_split_message(
+        cid: u32,
+        cmd: u8,
+        payload: *const u8,
+        payload_len: usize,
+        internal_error: u8,
+        index: usize,
+        packet: *mut u8,
+        packet_len: usize,
+    ) -> u8;
+    fn snjofrask_host_read(
+        collection: *mut Collection,
+        cid: u32,
+        packet: *const u8,
+        packet_len: usize,
+        buffer: *mut u8,
+        buffer_len: usize,
+    ) -> Outcome;
+    fn snjofrask_init_reply(cmd: u8, payload: *const u8, payload_len: usize) -> InitOutcome;
+}
+
+pub fn transport_new(hid: &mut CtapHid, max: usize, u2f: bool) -> u8 {
+    unsafe { snjofrask_transport_new(hid, max, u2f as u8) }
+}
+
+pub fn transport_step(
+    hid: &mut CtapHid,
+    time: u64,
+    disabled: bool,
+    packet: &[u8],
+    message: &mut [u8],
+    reply: &mut [u8],
+) -> Outcome {
+    unsafe {
+        snjofrask_transport_step(
+            hid,
+            time,
+            disabled as u8,
+            packet.as_ptr(),
+            packet.len(),
+            message.as_mut_ptr(),
+            message.len(),
+            reply.as_mut_ptr(),
+            reply.len(),
+        )
+    }
+}
+
+pub fn is_locked(hid: &CtapHid, time: u64) -> u8 {
+    unsafe { snjofrask_is_locked(hid, time) }
+}
+
+pub fn device_new(hid: &mut MainHid, max: usize, u2f: bool) -> u8 {
+    unsafe { snjofrask_device_new(hid, max, u2f as u8) }
+}
+
+pub fn device_step(
+    hid: &mut MainHid,
+    time: u64,
+    disabled: bool,
+    packet: &[u8],
+    message: &mut [u8],
+    reply: &mut [u8],
+) -> Outcome {
+    unsafe {
+        snjofrask_device_step(
+            hid,
+            time,
+            disabled as u8,
+            packet.as_ptr(),
+            packet.len(),
+            message.as_mut_ptr(),
+            message.len(),
+            reply.as_mut_ptr(),
+            reply.len(),
+        )
+    }
+}
+
+pub fn is_winking(hid: &MainHid, time: u64) -> u8 {
+    unsafe { snjofrask_is_winking(hid, time) }
+}
+
+pub fn read_packet(packet: &[u8]) -> Outcome {
+    unsafe { snjofrask_read_packet(packet.as_ptr(), packet.len()) }
+}
+
+pub fn packet_count(len: usize) -> Outcome {
+    unsafe { snjofrask_packet_count(len) }
+}
+
+pub fn split_message(
+    cid: u32,
+    cmd: u8,
+    payload: &[u8],
+    internal_error: u8,
+    index: usize,
+    packet: &mut [u8],
+) -> u8 {
+    unsafe {
+        snjofrask_split_message(
+            cid,
+            cmd,
+            payload.as_ptr(),
+            payload.len(),
+            internal_error,
+            index,
+            packet.as_mut_ptr(),
+            packet.len(),
+        )
+    }
+}
+
+pub fn host_read(
+    collection: &mut Collection,
+    cid: u32,
+    packet: &[u8],
+    buffer: &mut [u8],
+) -> Outcome {
+    unsafe {
+        snjofrask_host_read(
+            collection,
+            cid,
+            packet.as_ptr(),
+            packet.len(),
+            buffer.as_mut_ptr(),
+            buffer.len(),
+        )
+    }
+}
+
+pub fn init_reply(cmd: u8, payload: &[u8]) -> InitOutcome {
+    unsafe { snjofrask_init_reply(cmd, payload.as_ptr(), payload.len()) }
+}

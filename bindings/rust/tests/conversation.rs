@@ -1,0 +1,214 @@
+//! A host and a device, both of this crate, over packets: every length of message that stands at a boundary.
+use snjofrask::{
+    CHANNEL_BROADCAST, ChannelID, Collection, CtapHid, CtapHidCommand, CtapHidError,
+    HidPacketIterator, InitReply, LARGEST_PAYLOAD, LAST_TIME_MS, MainHid, Message, Processed,
+    Progress, Refusal, init_reply,
+};
+
+const LENGTHS: [usize; 12] = [0, 1, 56, 57, 58, 115, 116, 117, 175, 1024, 7608, 7609];
+
+/// Sends a message, answers requests by the reverse of their payload, and reads the reply.
+fn ask(
+    device: &mut MainHid,
+    time_ms: u64,
+    message: Message,
+) -> Result<Option<(u8, Vec<u8>)>, Refusal> {
+    let mut buffer = [0; LARGEST_PAYLOAD];
+    let mut collection = Collection::new(&mut buffer);
+    let mut reply = None;
+    let mut hear = |packets: HidPacketIterator| {
+        for packet in packets {
+            match collection.take_packet(message.cid, &packet).unwrap() {
+                Progress::Waiting => {}
+                Progress::Reply { cmd, payload } => {
+                    assert_eq!(reply.replace((cmd, payload.to_vec())), None)
+                }
+                other => panic!("{other:?}"),
+            }
+        }
+    };
+    for packet in HidPacketIterator::new(message).unwrap() {
+        match device.process_hid_packet(time_ms, &packet, false)? {
+            Processed::Packets(packets) => hear(packets),
+            Processed::Request(request) => {
+                let payload: Vec<u8> = request.payload.iter().rev().copied().collect();
+                hear(CtapHid::split_message(Message {
+                    payload: &payload,
+                    ..request
+                }));
+            }
+        }
+    }
+    Ok(reply)
+}
+
+fn init(device: &mut MainHid, time_ms: u64, nonce: [u8; 8]) -> InitReply {
+    let message = Message {
+        cid: CHANNEL_BROADCAST,
+        cmd: CtapHidCommand::Init,
+        payload: &nonce,
+    };
+    let (cmd, payload) = ask(device, time_ms, message).unwrap().unwrap();
+    let reply = init_reply(cmd, &payload).unwrap();
+    assert_eq!(reply.nonce, nonce);
+    reply
+}
+
+fn error(cid: ChannelID, error: CtapHidError) -> Option<(u8, Vec<u8>)> {
+    let message = CtapHid::error_message(cid, error);
+    Some((message.cmd as u8, message.payload.to_vec()))
+}
+
+#[test]
+fn every_message_comes_back() {
+    let mut buffer = [0; LARGEST_PAYLOAD];
+    let mut device = MainHid::new(&mut buffer, true).unwrap();
+    assert_eq!(init(&mut device, 0, [1; 8]).cid, [0, 0, 0, 1]);
+    let cid = init(&mut device, 0, [2; 8]).cid;
+    assert_eq!(cid, [0, 0, 0, 2]);
+    let bytes: Vec<u8> = (0..LARGEST_PAYLOAD).map(|i| (i % 251) as u8).collect();
+    for len in LENGTHS {
+        let payload = &bytes[..len];
+        let reversed: Vec<u8> = payload.iter().rev().copied().collect();
+        for (cmd, reply) in [
+            (CtapHidCommand::Ping, payload),
+            (CtapHidCommand::Msg, &reversed),
+            (CtapHidCommand::Cbor, &reversed),
+        ] {
+            let message = Message { cid, cmd, payload };
+            let packets = HidPacketIterator::new(message).unwrap();
+            assert_eq!(packets.len(), 1 + (len + 1) / 59);
+            assert_eq!(
+                ask(&mut device, 0, message),
+                Ok(Some((cmd as u8, reply.to_vec())))
+            );
+        }
+    }
+}
+
+#[test]
+fn errors_are_told() {
+    let mut buffer = [0; 100];
+    let mut device = MainHid::new(&mut buffer, false).unwrap();
+    let reply = init(&mut device, 0, [0; 8]);
+    let capabilities =
+        CtapHid::CAPABILITY_WINK | CtapHid::CAPABILITY_CBOR | CtapHid::CAPABILITY_NMSG;
+    assert_eq!(reply.capabilities, capabilities);
+    let cid = init(&mut device, 0, [0; 8]).cid;
+    for (cid, cmd, payload, wanted) in [
+        (
+            cid,
+            CtapHidCommand::Msg,
+            &[0; 8][..],
+            CtapHidError::InvalidCmd,
+        ),
+        (
+            cid,
+            CtapHidCommand::Keepalive,
+            &[],
+            CtapHidError::InvalidCmd,
+        ),
+        (cid, CtapHidCommand::Lock, &[11], CtapHidError::InvalidPar),
+        (cid, CtapHidCommand::Lock, &[], CtapHidError::InvalidLen),
+        (cid, CtapHidCommand::Wink, &[0], CtapHidError::InvalidLen),
+        (
+            [0, 0, 0, 3],
+            CtapHidCommand::Ping,
+            &[],
+            CtapHidError::InvalidChannel,
+        ),
+        (
+            CHANNEL_BROADCAST,
+            CtapHidCommand::Ping,
+            &[],
+            CtapHidError::InvalidChannel,
+        ),
+    ] {
+        let message = Message { cid, cmd, payload };
+        assert_eq!(ask(&mut device, 0, message), Ok(error(cid, wanted)));
+    }
+
+    // a lock: another channel waits, and so does everyone while the transport is disabled
+    let lock = Message {
+        cid,
+        cmd: CtapHidCommand::Lock,
+        payload: &[1],
+    };
+    let ping = Message {
+        cid: [0, 0, 0, 1],
+        cmd: CtapHidCommand::Ping,
+        payload: &[],
+    };
+    assert_eq!(ask(&mut device, 0, lock), Ok(Some((4, vec![]))));
+    assert_eq!(device.has_channel_lock(0), Ok(true));
+    assert_eq!(
+        ask(&mut device, 999, ping),
+        Ok(error(ping.cid, CtapHidError::ChannelBusy))
+    );
+    assert_eq!(ask(&mut device, 1000, ping), Ok(Some((1, vec![]))));
+    let packet = HidPacketIterator::new(ping).unwrap().next().unwrap();
+    let Ok(Processed::Packets(mut packets)) = device.process_hid_packet(1000, &packet, true) else {
+        panic!();
+    };
+    assert_eq!(packets.next(), CtapHid::busy_error(ping.cid).next());
+    assert_eq!(packets.next(), None);
+}
+
+#[test]
+fn a_message_out_of_order() {
+    let mut buffer = [0; 200];
+    let mut device = MainHid::new(&mut buffer, true).unwrap();
+    let cid = init(&mut device, 0, [0; 8]).cid;
+    let message = Message {
+        cid,
+        cmd: CtapHidCommand::Ping,
+        payload: &[0; 200],
+    };
+    let packets: Vec<_> = HidPacketIterator::new(message).unwrap().collect();
+    assert_eq!(packets.len(), 4);
+    let mut sent = Vec::new();
+    for at in [0, 2] {
+        let Ok(Processed::Packets(packets)) = device.process_hid_packet(0, &packets[at], false)
+        else {
+            panic!();
+        };
+        sent.extend(packets);
+    }
+    let told = CtapHid::split_message(CtapHid::error_message(cid, CtapHidError::InvalidSeq));
+    assert_eq!(sent, told.collect::<Vec<_>>());
+}
+
+#[test]
+fn refusals() {
+    let mut buffer = [0; LARGEST_PAYLOAD + 1];
+    assert_eq!(
+        MainHid::new(&mut buffer, true).err(),
+        Some(Refusal::Maximum)
+    );
+    let mut device = MainHid::new(&mut buffer[..57], true).unwrap();
+    let cid = init(&mut device, 7, [0; 8]).cid;
+    let ping = Message {
+        cid,
+        cmd: CtapHidCommand::Ping,
+        payload: &[],
+    };
+    assert_eq!(ask(&mut device, 6, ping), Err(Refusal::Time));
+    assert_eq!(ask(&mut device, LAST_TIME_MS + 1, ping), Err(Refusal::Time));
+    assert_eq!(ask(&mut device, LAST_TIME_MS, ping), Ok(Some((1, vec![]))));
+
+    let mut buffer = [0; 60];
+    let mut collection = Collection::new(&mut buffer);
+    let packets = |len: usize| {
+        CtapHid::split_message(Message {
+            payload: &[0; 200][..len],
+            ..ping
+        })
+    };
+    let first = packets(61).next().unwrap();
+    assert_eq!(collection.take_packet(cid, &first), Err(Refusal::LongReply));
+    let first = packets(60).next().unwrap();
+    assert_eq!(collection.take_packet(cid, &first), Ok(Progress::Waiting));
+    assert_eq!(collection.take_packet(cid, &first), Err(Refusal::Sequence));
+    assert_eq!(Refusal::Sequence as u8, 9);
+    assert_eq!(Refusal::Sequence.to_string(), "a packet out of order");
+}

@@ -1,0 +1,307 @@
+/*
+ * Snjofrask: CTAPHID, FIDO messages over USB HID in packets of 64 bytes, for C11 and C++17.
+ *
+ * Link target/staticlib/libsnjofrask.a, which `rt staticlib snjofrask` writes, for x86-64 with the System V calling
+ * convention. It allocates nothing, keeps nothing between calls, and calls nothing outside but, at most, memset.
+ *
+ * What is proved holds for callers that keep to this:
+ *  - Every pointer is valid for the count after it, or for its struct, is aligned as its type, and is not null, also
+ *    where the count is 0.
+ *  - What a call may write (a pointer that is not const) overlaps nothing else that is lent to the same call.
+ *  - Up to 128 bytes below the stack pointer are used (the red zone). An interrupt handler on the same stack has to
+ *    skip them, or run on a stack of its own.
+ *  - A struct comes from the _new entry or from an earlier call, or is all zeros for a collection. Any other contents
+ *    do no harm: what makes no sense is refused with 3.
+ *
+ * Threads: there are no globals. Calls over different structs and buffers may run at once; a struct and its buffers
+ * serve one call at a time.
+ *
+ * Time is in whole milliseconds from any beginning, at most SNJOFRASK_LAST_TIME_MS, and never goes back for a state.
+ *
+ * A flag is a number, and is set where it is not 0.
+ */
+#ifndef SNJOFRASK_H
+#define SNJOFRASK_H
+
+#include <stddef.h>
+#include <stdint.h>
+
+#ifdef __cplusplus
+#define SNJOFRASK_ASSERT(test) static_assert(test, #test)
+extern "C" {
+#else
+#define SNJOFRASK_ASSERT(test) _Static_assert(test, #test)
+#endif
+
+/* ---- numbers */
+
+/* Limits: bytes and milliseconds. */
+#define SNJOFRASK_PACKET_SIZE 64
+#define SNJOFRASK_LARGEST_PAYLOAD 7609
+#define SNJOFRASK_TIMEOUT_MS 100
+#define SNJOFRASK_WINK_TIMEOUT_MS 5000
+#define SNJOFRASK_LAST_TIME_MS 0xFFFFFFFFFFFF
+
+/* The short reply buffer has at least this many bytes, and the reply to INIT exactly so many. */
+#define SNJOFRASK_SHORT_REPLY_SIZE 17
+
+/* The channel on which a host asks for one of its own. */
+#define SNJOFRASK_CHANNEL_BROADCAST 0xFFFFFFFF
+
+/* Commands. A device takes any other for ERROR. */
+#define SNJOFRASK_CMD_PING 0x01
+#define SNJOFRASK_CMD_MSG 0x03
+#define SNJOFRASK_CMD_LOCK 0x04
+#define SNJOFRASK_CMD_INIT 0x06
+#define SNJOFRASK_CMD_WINK 0x08
+#define SNJOFRASK_CMD_CBOR 0x10
+#define SNJOFRASK_CMD_CANCEL 0x11
+#define SNJOFRASK_CMD_KEEPALIVE 0x3B
+#define SNJOFRASK_CMD_ERROR 0x3F
+
+/* Errors: the one byte of a reply with command ERROR. */
+#define SNJOFRASK_ERR_INVALID_CMD 0x01
+#define SNJOFRASK_ERR_INVALID_PAR 0x02
+#define SNJOFRASK_ERR_INVALID_LEN 0x03
+#define SNJOFRASK_ERR_INVALID_SEQ 0x04
+#define SNJOFRASK_ERR_MSG_TIMEOUT 0x05
+#define SNJOFRASK_ERR_CHANNEL_BUSY 0x06
+#define SNJOFRASK_ERR_INVALID_CHANNEL 0x0B
+
+/* Capabilities, in the last byte of the reply to INIT. A device reports WINK and CBOR, and without U2F NMSG as well. */
+#define SNJOFRASK_CAPABILITY_WINK 0x01
+#define SNJOFRASK_CAPABILITY_CBOR 0x04
+#define SNJOFRASK_CAPABILITY_NMSG 0x08
+
+/* Why a device is not done yet: the byte of a KEEPALIVE. */
+#define SNJOFRASK_STATUS_PROCESSING 0x01
+#define SNJOFRASK_STATUS_UPNEEDED 0x02
+
+/* Refusals: the call was wrong, and has altered nothing. 0 is none. */
+#define SNJOFRASK_REFUSAL_PACKET_SIZE 1      /* a packet, read or written, that isn't 64 bytes */
+#define SNJOFRASK_REFUSAL_SHORT_BUFFER 2     /* a message buffer below the maximum, or a reply buffer below 17 bytes */
+#define SNJOFRASK_REFUSAL_UNSOUND 3          /* a state or a collection that makes no sense */
+#define SNJOFRASK_REFUSAL_TIME 4             /* a time past the last one, or before an earlier one */
+#define SNJOFRASK_REFUSAL_MAXIMUM 5          /* set-up with a maximum above 7,609 */
+#define SNJOFRASK_REFUSAL_INDEX 6            /* a packet index at or past the count */
+#define SNJOFRASK_REFUSAL_LONG_PAYLOAD 7     /* a payload of over 7,609 bytes */
+#define SNJOFRASK_REFUSAL_LONG_PING 8        /* no entry gives it: a device's maximum keeps PINGs shorter */
+#define SNJOFRASK_REFUSAL_SEQUENCE 9         /* host: a wrong number, or a first packet inside a reply */
+#define SNJOFRASK_REFUSAL_LONG_REPLY 10      /* host: a reply that the buffer can't hold, or a KEEPALIVE not of 1 byte */
+#define SNJOFRASK_REFUSAL_NOT_INIT 11        /* host: not a reply to INIT of exactly 17 bytes */
+#define SNJOFRASK_REFUSAL_COMMAND 12         /* a command above 127 to be sent */
+
+/* Kinds of outcome, and which fields say something. The others are 0. */
+#define SNJOFRASK_KIND_REFUSED 0             /* refusal */
+#define SNJOFRASK_KIND_NOTHING 1             /* nothing is to be sent */
+#define SNJOFRASK_KIND_MESSAGE 2             /* the caller is to answer: cid, cmd, and len bytes of the message buffer */
+#define SNJOFRASK_KIND_ECHO 3                /* to be sent: cid, cmd, and len bytes of the message buffer */
+#define SNJOFRASK_KIND_REPLY 4               /* to be sent: cid, cmd, and len bytes of the reply buffer */
+#define SNJOFRASK_KIND_FIRST 5               /* a first packet: cid, cmd, declared length in len; data from byte 7 on */
+#define SNJOFRASK_KIND_CONTINUATION 6        /* a continuation packet: cid, its number in cmd; data from byte 5 on */
+#define SNJOFRASK_KIND_COUNT 7               /* len */
+#define SNJOFRASK_KIND_IGNORED 8             /* host: of another channel, or a continuation before a first packet */
+#define SNJOFRASK_KIND_KEEPALIVE 9           /* host: not done yet, status in cmd */
+#define SNJOFRASK_KIND_WAITING 10            /* host: taken, and more is due */
+#define SNJOFRASK_KIND_COLLECTED 11          /* host: a whole reply: cmd, and len bytes of the buffer */
+
+/* ---- structs: numbers only, without padding */
+
+/* A message on its way in. deadline: when it is dropped. len: its declared length, and 0 where there is none. */
+typedef struct snjofrask_assembler {
+    uint64_t deadline;
+    uint32_t cid;
+    uint32_t len;
+    uint32_t taken;
+    uint16_t cmd;
+    uint16_t seq;
+} snjofrask_assembler;
+
+/* A transport. Channels 1 to allocated are allocated; channel locked holds the lock until the time lock; last is the time of the latest step. */
+typedef struct snjofrask_transport {
+    snjofrask_assembler assembler;
+    uint64_t lock;
+    uint64_t last;
+    uint32_t allocated;
+    uint32_t locked;
+    uint32_t max;
+    uint32_t u2f;
+} snjofrask_transport;
+
+/* A device: a transport, and a wink that runs until the time wink. */
+typedef struct snjofrask_device {
+    snjofrask_transport hid;
+    uint64_t wink;
+} snjofrask_device;
+
+/* A host's reply on its way in. All zeros is a fresh one. */
+typedef struct snjofrask_collection {
+    uint16_t len;
+    uint16_t taken;
+    uint8_t cmd;
+    uint8_t seq;
+} snjofrask_collection;
+
+/* What a call answers. kind says which of the others count. */
+typedef struct snjofrask_outcome {
+    size_t len;
+    uint32_t cid;
+    uint8_t kind;
+    uint8_t cmd;
+    uint8_t refusal;
+    uint8_t spare;
+} snjofrask_outcome;
+
+/* What a reply to INIT tells. With a refusal all else is 0. */
+typedef struct snjofrask_init_outcome {
+    uint32_t cid;
+    uint8_t protocol;
+    uint8_t major;
+    uint8_t minor;
+    uint8_t build;
+    uint8_t capabilities;
+    uint8_t refusal;
+    uint16_t spare;
+    uint8_t nonce[8];
+} snjofrask_init_outcome;
+
+/* the layout that the archive was compiled for */
+SNJOFRASK_ASSERT(sizeof(size_t) == 8);
+SNJOFRASK_ASSERT(sizeof(void *) == 8);
+
+SNJOFRASK_ASSERT(sizeof(snjofrask_assembler) == 24);
+SNJOFRASK_ASSERT(offsetof(snjofrask_assembler, deadline) == 0);
+SNJOFRASK_ASSERT(offsetof(snjofrask_assembler, cid) == 8);
+SNJOFRASK_ASSERT(offsetof(snjofrask_assembler, len) == 12);
+SNJOFRASK_ASSERT(offsetof(snjofrask_assembler, taken) == 16);
+SNJOFRASK_ASSERT(offsetof(snjofrask_assembler, cmd) == 20);
+SNJOFRASK_ASSERT(offsetof(snjofrask_assembler, seq) == 22);
+
+SNJOFRASK_ASSERT(sizeof(snjofrask_transport) == 56);
+SNJOFRASK_ASSERT(offsetof(snjofrask_transport, assembler) == 0);
+SNJOFRASK_ASSERT(offsetof(snjofrask_transport, lock) == 24);
+SNJOFRASK_ASSERT(offsetof(snjofrask_transport, last) == 32);
+SNJOFRASK_ASSERT(offsetof(snjofrask_transport, allocated) == 40);
+SNJOFRASK_ASSERT(offsetof(snjofrask_transport, locked) == 44);
+SNJOFRASK_ASSERT(offsetof(snjofrask_transport, max) == 48);
+SNJOFRASK_ASSERT(offsetof(snjofrask_transport, u2f) == 52);
+
+SNJOFRASK_ASSERT(sizeof(snjofrask_device) == 64);
+SNJOFRASK_ASSERT(offsetof(snjofrask_device, hid) == 0);
+SNJOFRASK_ASSERT(offsetof(snjofrask_device, wink) == 56);
+
+SNJOFRASK_ASSERT(sizeof(snjofrask_collection) == 6);
+SNJOFRASK_ASSERT(offsetof(snjofrask_collection, len) == 0);
+SNJOFRASK_ASSERT(offsetof(snjofrask_collection, taken) == 2);
+SNJOFRASK_ASSERT(offsetof(snjofrask_collection, cmd) == 4);
+SNJOFRASK_ASSERT(offsetof(snjofrask_collection, seq) == 5);
+
+SNJOFRASK_ASSERT(sizeof(snjofrask_outcome) == 16);
+SNJOFRASK_ASSERT(offsetof(snjofrask_outcome, len) == 0);
+SNJOFRASK_ASSERT(offsetof(snjofrask_outcome, cid) == 8);
+SNJOFRASK_ASSERT(offsetof(snjofrask_outcome, kind) == 12);
+SNJOFRASK_ASSERT(offsetof(snjofrask_outcome, cmd) == 13);
+SNJOFRASK_ASSERT(offsetof(snjofrask_outcome, refusal) == 14);
+SNJOFRASK_ASSERT(offsetof(snjofrask_outcome, spare) == 15);
+
+SNJOFRASK_ASSERT(sizeof(snjofrask_init_outcome) == 20);
+SNJOFRASK_ASSERT(offsetof(snjofrask_init_outcome, cid) == 0);
+SNJOFRASK_ASSERT(offsetof(snjofrask_init_outcome, protocol) == 4);
+SNJOFRASK_ASSERT(offsetof(snjofrask_init_outcome, major) == 5);
+SNJOFRASK_ASSERT(offsetof(snjofrask_init_outcome, minor) == 6);
+SNJOFRASK_ASSERT(offsetof(snjofrask_init_outcome, build) == 7);
+SNJOFRASK_ASSERT(offsetof(snjofrask_init_outcome, capabilities) == 8);
+SNJOFRASK_ASSERT(offsetof(snjofrask_init_outcome, refusal) == 9);
+SNJOFRASK_ASSERT(offsetof(snjofrask_init_outcome, spare) == 10);
+SNJOFRASK_ASSERT(offsetof(snjofrask_init_outcome, nonce) == 12);
+
+/* ---- a device: everything but what MSG and CBOR mean */
+
+/*
+ * A fresh device that takes messages of up to max bytes, with U2F or without. Channels, lock and wink are none, and
+ * its time is 0.
+ * Returns 0, or refusal 5, which leaves hid as it came.
+ */
+uint8_t snjofrask_device_new(snjofrask_device *hid, size_t max, uint8_t u2f);
+
+/*
+ * A packet that came at a time. With disabled set, every packet on a valid channel, a broadcast INIT too, is told that
+ * the device is busy.
+ *
+ * message has at least max bytes and is lent back untouched while a message is on its way in: its data is put together
+ * there. reply has at least 17 bytes. Kinds:
+ *  - NOTHING;
+ *  - ECHO, REPLY: send the packets of cid, cmd and the payload, by snjofrask_write_packet;
+ *  - MESSAGE: MSG or CBOR for the caller to answer on the same channel with the same command, by
+ *    snjofrask_split_message. From then on message is free, until the next step;
+ *  - REFUSED: by 1, 2, 3 or 4, in this order. hid, message and reply are as they came.
+ */
+snjofrask_outcome snjofrask_device_step(snjofrask_device *hid, uint64_t time, uint8_t disabled, const uint8_t *packet,
+                                        size_t packet_len, uint8_t *message, size_t message_len, uint8_t *reply,
+                                        size_t reply_len);
+
+/* Whether a wink runs at a time, which alters nothing: 0 for no, 1 for yes, or refusal 3 or 4. */
+uint8_t snjofrask_is_winking(const snjofrask_device *hid, uint64_t time);
+
+/* ---- a transport alone: a device without the wink, for a caller that handles WINK itself */
+
+/* As snjofrask_device_new. */
+uint8_t snjofrask_transport_new(snjofrask_transport *hid, size_t max, uint8_t u2f);
+
+/* As snjofrask_device_step, but WINK, and without U2F MSG too, come as MESSAGE. A PING is an ECHO here as well. */
+snjofrask_outcome snjofrask_transport_step(snjofrask_transport *hid, uint64_t time, uint8_t disabled,
+                                           const uint8_t *packet, size_t packet_len, uint8_t *message,
+                                           size_t message_len, uint8_t *reply, size_t reply_len);
+
+/*
+ * Whether a lock runs at a time, which alters nothing: 0 for no, 1 for yes, or refusal 3 or 4.
+ * For a device ask its hid.
+ */
+uint8_t snjofrask_is_locked(const snjofrask_transport *hid, uint64_t time);
+
+/* ---- packets, for both ends */
+
+/* Reads one packet: FIRST, CONTINUATION, or REFUSED by 1. The command is as it stands in the packet, below 128. */
+snjofrask_outcome snjofrask_read_packet(const uint8_t *packet, size_t packet_len);
+
+/* How many packets a payload of len bytes takes: COUNT, from 1 to 129, or REFUSED by 7. */
+snjofrask_outcome snjofrask_packet_count(size_t len);
+
+/*
+ * Writes packet number index, from 0 on, of a message: all 64 bytes.
+ * Returns 0, or refusal 1, 12, 7 or 6, in this order, which leaves packet as it came.
+ */
+uint8_t snjofrask_write_packet(uint32_t cid, uint8_t cmd, const uint8_t *payload, size_t payload_len, size_t index,
+                               uint8_t *packet, size_t packet_len);
+
+/*
+ * The same for a reply that may be too long: one of over 7,609 bytes is replaced by CBOR on the same channel with the
+ * one byte internal_error (CTAP2_ERR_VENDOR_INTERNAL_ERROR, 0xF2 in OpenSK). To send a reply, raise index from 0 until
+ * refusal 6.
+ * Returns 0, or refusal 1, 12 or 6, in this order, which leaves packet as it came.
+ */
+uint8_t snjofrask_split_message(uint32_t cid, uint8_t cmd, const uint8_t *payload, size_t payload_len,
+                                uint8_t internal_error, size_t index, uint8_t *packet, size_t packet_len);
+
+/* ---- a host */
+
+/*
+ * A packet that came, read for channel cid. Replies are put together in buffer, which is lent back untouched while one
+ * is on its way in. A reply is at most as long as buffer. Kinds:
+ *  - IGNORED, WAITING;
+ *  - KEEPALIVE: status in cmd;
+ *  - COLLECTED: the command as it stands in the packet, ERROR too, and the payload. The collection is fresh again;
+ *  - REFUSED: by 1 or 3, and if it isn't ignored by 9 or 10. collection and buffer are as they came; to give a reply
+ *    up, make the collection all zeros.
+ */
+snjofrask_outcome snjofrask_host_read(snjofrask_collection *collection, uint32_t cid, const uint8_t *packet,
+                                      size_t packet_len, uint8_t *buffer, size_t buffer_len);
+
+/* The fields of a reply to INIT, by its command and payload; refusal is 0, or 11. Whether the nonce is the one that was sent is for the caller to see. */
+snjofrask_init_outcome snjofrask_init_reply(uint8_t cmd, const uint8_t *payload, size_t payload_len);
+
+#ifdef __cplusplus
+}
+#endif
+
+#endif

@@ -1,0 +1,279 @@
+/* Calls every entry of include/snjofrask.h, as C11 and as C++17, and holds what it answers, writes and leaves alone to the scope's numbers. */
+#include "snjofrask.h"
+#include <stdio.h>
+#include <string.h>
+
+static int failures;
+
+#define CHECK(test) check(test, #test, __LINE__)
+
+static void check(int holds, const char *text, int line)
+{
+    if (!holds) {
+        fprintf(stderr, "tests/header.c:%d: not so: %s\n", line, text);
+        failures++;
+    }
+}
+
+static uint8_t message[SNJOFRASK_LARGEST_PAYLOAD];
+static uint8_t reply[SNJOFRASK_SHORT_REPLY_SIZE];
+static uint8_t payload[SNJOFRASK_LARGEST_PAYLOAD + 1];
+static uint8_t packet[SNJOFRASK_PACKET_SIZE];
+
+static int is(snjofrask_outcome outcome, int kind, uint32_t cid, int cmd, size_t len)
+{
+    return outcome.kind == kind && outcome.cid == cid && outcome.cmd == cmd && outcome.len == len && outcome.refusal == 0 &&
+           outcome.spare == 0;
+}
+
+static int is_refused(snjofrask_outcome outcome, int refusal)
+{
+    return outcome.kind == SNJOFRASK_KIND_REFUSED && outcome.refusal == refusal && outcome.cid == 0 && outcome.cmd == 0 &&
+           outcome.len == 0 && outcome.spare == 0;
+}
+
+static int all_are(const uint8_t *bytes, size_t len, int value)
+{
+    for (size_t i = 0; i < len; i++)
+        if (bytes[i] != value)
+            return 0;
+    return 1;
+}
+
+/* packet: number index of the message that is len bytes of payload */
+static void put(uint32_t cid, uint8_t cmd, size_t len, size_t index)
+{
+    CHECK(snjofrask_write_packet(cid, cmd, payload, len, index, packet, sizeof packet) == 0);
+}
+
+static snjofrask_outcome device_step(snjofrask_device *device, uint64_t time, uint8_t disabled)
+{
+    return snjofrask_device_step(device, time, disabled, packet, sizeof packet, message, sizeof message, reply, sizeof reply);
+}
+
+static snjofrask_outcome transport_step(snjofrask_transport *transport, uint64_t time, uint8_t disabled)
+{
+    return snjofrask_transport_step(transport, time, disabled, packet, sizeof packet, message, sizeof message, reply,
+                                    sizeof reply);
+}
+
+static void packets(void)
+{
+    static const uint8_t front[] = {0x12, 0x34, 0x56, 0x78, 0x81, 0, 58};
+    static const uint8_t number[] = {0x12, 0x34, 0x56, 0x78, 0};
+
+    CHECK(is(snjofrask_packet_count(0), SNJOFRASK_KIND_COUNT, 0, 0, 1));
+    CHECK(is(snjofrask_packet_count(57), SNJOFRASK_KIND_COUNT, 0, 0, 1));
+    CHECK(is(snjofrask_packet_count(58), SNJOFRASK_KIND_COUNT, 0, 0, 2));
+    CHECK(is(snjofrask_packet_count(SNJOFRASK_LARGEST_PAYLOAD), SNJOFRASK_KIND_COUNT, 0, 0, 129));
+    CHECK(is_refused(snjofrask_packet_count(SNJOFRASK_LARGEST_PAYLOAD + 1), SNJOFRASK_REFUSAL_LONG_PAYLOAD));
+
+    memset(packet, 0xEE, sizeof packet);
+    put(0x12345678, SNJOFRASK_CMD_PING, 58, 0);
+    CHECK(memcmp(packet, front, 7) == 0 && memcmp(packet + 7, payload, 57) == 0);
+    CHECK(is(snjofrask_read_packet(packet, sizeof packet), SNJOFRASK_KIND_FIRST, 0x12345678, SNJOFRASK_CMD_PING, 58));
+    put(0x12345678, SNJOFRASK_CMD_PING, 58, 1);
+    CHECK(memcmp(packet, number, 5) == 0 && packet[5] == payload[57] && all_are(packet + 6, 58, 0));
+    CHECK(is(snjofrask_read_packet(packet, sizeof packet), SNJOFRASK_KIND_CONTINUATION, 0x12345678, 0, 0));
+    put(0x12345678, SNJOFRASK_CMD_PING, SNJOFRASK_LARGEST_PAYLOAD, 128);
+    CHECK(is(snjofrask_read_packet(packet, sizeof packet), SNJOFRASK_KIND_CONTINUATION, 0x12345678, 127, 0));
+    CHECK(is_refused(snjofrask_read_packet(packet, 63), SNJOFRASK_REFUSAL_PACKET_SIZE));
+
+    memset(packet, 0xEE, sizeof packet);
+    CHECK(snjofrask_write_packet(1, 128, payload, sizeof payload, 200, packet, 63) == SNJOFRASK_REFUSAL_PACKET_SIZE);
+    CHECK(snjofrask_write_packet(1, 128, payload, sizeof payload, 200, packet, 64) == SNJOFRASK_REFUSAL_COMMAND);
+    CHECK(snjofrask_write_packet(1, 127, payload, sizeof payload, 200, packet, 64) == SNJOFRASK_REFUSAL_LONG_PAYLOAD);
+    CHECK(snjofrask_write_packet(1, 127, payload, 57, 1, packet, 64) == SNJOFRASK_REFUSAL_INDEX);
+    CHECK(snjofrask_split_message(1, 128, payload, sizeof payload, 0xF2, 200, packet, 65) == SNJOFRASK_REFUSAL_PACKET_SIZE);
+    CHECK(snjofrask_split_message(1, 128, payload, sizeof payload, 0xF2, 200, packet, 64) == SNJOFRASK_REFUSAL_COMMAND);
+    CHECK(snjofrask_split_message(1, 127, payload, sizeof payload, 0xF2, 1, packet, 64) == SNJOFRASK_REFUSAL_INDEX);
+    CHECK(all_are(packet, 64, 0xEE));
+    CHECK(snjofrask_split_message(1, SNJOFRASK_CMD_MSG, payload, sizeof payload, 0xF2, 0, packet, 64) == 0);
+    CHECK(is(snjofrask_read_packet(packet, 64), SNJOFRASK_KIND_FIRST, 1, SNJOFRASK_CMD_CBOR, 1));
+    CHECK(packet[7] == 0xF2 && all_are(packet + 8, 56, 0));
+    CHECK(snjofrask_split_message(1, SNJOFRASK_CMD_MSG, payload, 58, 0xF2, 1, packet, 64) == 0);
+    CHECK(is(snjofrask_read_packet(packet, 64), SNJOFRASK_KIND_CONTINUATION, 1, 0, 0));
+}
+
+static void device_messages(snjofrask_device *device)
+{
+    static const uint8_t welcome[] = {1, 2, 3, 4, 5, 6, 7, 8, 0, 0, 0, 1, 2, 1, 0, 0, 5};
+
+    put(SNJOFRASK_CHANNEL_BROADCAST, SNJOFRASK_CMD_INIT, 8, 0);
+    CHECK(is(device_step(device, 10, 0), SNJOFRASK_KIND_REPLY, SNJOFRASK_CHANNEL_BROADCAST, SNJOFRASK_CMD_INIT, 17));
+    CHECK(memcmp(reply, welcome, sizeof welcome) == 0);
+    CHECK(device->hid.allocated == 1 && device->hid.last == 10);
+
+    put(1, SNJOFRASK_CMD_PING, 58, 0);
+    CHECK(is(device_step(device, 20, 0), SNJOFRASK_KIND_NOTHING, 0, 0, 0));
+    CHECK(device->hid.assembler.deadline == 20 + SNJOFRASK_TIMEOUT_MS && device->hid.assembler.cid == 1);
+    CHECK(device->hid.assembler.len == 58 && device->hid.assembler.taken == 57);
+    CHECK(device->hid.assembler.cmd == SNJOFRASK_CMD_PING && device->hid.assembler.seq == 0);
+    put(1, SNJOFRASK_CMD_PING, 58, 1);
+    CHECK(is(device_step(device, 30, 0), SNJOFRASK_KIND_ECHO, 1, SNJOFRASK_CMD_PING, 58));
+    CHECK(memcmp(message, payload, 58) == 0 && device->hid.assembler.len == 0);
+
+    put(1, SNJOFRASK_CMD_CBOR, 3, 0);
+    CHECK(is(device_step(device, 40, 0), SNJOFRASK_KIND_MESSAGE, 1, SNJOFRASK_CMD_CBOR, 3));
+    CHECK(is(device_step(device, 40, 1), SNJOFRASK_KIND_REPLY, 1, SNJOFRASK_CMD_ERROR, 1));
+    CHECK(reply[0] == SNJOFRASK_ERR_CHANNEL_BUSY);
+    put(2, SNJOFRASK_CMD_CBOR, 3, 0);
+    CHECK(is(device_step(device, 40, 0), SNJOFRASK_KIND_REPLY, 2, SNJOFRASK_CMD_ERROR, 1));
+    CHECK(reply[0] == SNJOFRASK_ERR_INVALID_CHANNEL);
+}
+
+static void device_questions(snjofrask_device *device)
+{
+    put(1, SNJOFRASK_CMD_WINK, 0, 0);
+    CHECK(is(device_step(device, 50, 0), SNJOFRASK_KIND_ECHO, 1, SNJOFRASK_CMD_WINK, 0));
+    CHECK(device->wink == 50 + SNJOFRASK_WINK_TIMEOUT_MS);
+    CHECK(snjofrask_is_winking(device, 5049) == 1 && snjofrask_is_winking(device, 5050) == 0);
+    CHECK(snjofrask_is_winking(device, 49) == SNJOFRASK_REFUSAL_TIME);
+
+    CHECK(snjofrask_is_locked(&device->hid, 50) == 0);
+    put(1, SNJOFRASK_CMD_LOCK, 1, 0);
+    CHECK(is(device_step(device, 60, 0), SNJOFRASK_KIND_REPLY, 1, SNJOFRASK_CMD_LOCK, 0));
+    CHECK(device->hid.locked == 1 && device->hid.lock == 1060 && device->wink == 0);
+    CHECK(snjofrask_is_locked(&device->hid, 1059) == 1 && snjofrask_is_locked(&device->hid, 1060) == 0);
+    CHECK(snjofrask_is_locked(&device->hid, SNJOFRASK_LAST_TIME_MS) == 0);
+    CHECK(snjofrask_is_locked(&device->hid, SNJOFRASK_LAST_TIME_MS + 1) == SNJOFRASK_REFUSAL_TIME);
+    device->hid.max = SNJOFRASK_LARGEST_PAYLOAD + 1;
+    CHECK(snjofrask_is_locked(&device->hid, 60) == SNJOFRASK_REFUSAL_UNSOUND);
+    CHECK(snjofrask_is_winking(device, 60) == SNJOFRASK_REFUSAL_UNSOUND);
+    device->hid.max = SNJOFRASK_LARGEST_PAYLOAD;
+}
+
+/* all refusals of a step, each in front of the next, by steps that leave everything alone */
+static void device_refusals(snjofrask_device *device)
+{
+    const snjofrask_device before = *device;
+    snjofrask_device unsound = before;
+
+    memset(message, 0xEE, sizeof message);
+    memset(reply, 0xEE, sizeof reply);
+    put(1, SNJOFRASK_CMD_PING, 8, 0);
+    unsound.hid.max = SNJOFRASK_LARGEST_PAYLOAD + 1;
+    CHECK(is_refused(snjofrask_device_step(&unsound, 59, 0, packet, 63, message, 0, reply, 0), SNJOFRASK_REFUSAL_PACKET_SIZE));
+    CHECK(is_refused(snjofrask_device_step(device, 59, 0, packet, 64, message, sizeof message - 1, reply, 17),
+                     SNJOFRASK_REFUSAL_SHORT_BUFFER));
+    CHECK(is_refused(snjofrask_device_step(device, 59, 0, packet, 64, message, sizeof message, reply, 16),
+                     SNJOFRASK_REFUSAL_SHORT_BUFFER));
+    unsound.hid.max = 5;
+    unsound.hid.assembler.len = 6;
+    CHECK(is_refused(device_step(&unsound, 59, 0), SNJOFRASK_REFUSAL_UNSOUND));
+    CHECK(is_refused(device_step(device, 59, 0), SNJOFRASK_REFUSAL_TIME));
+    CHECK(is_refused(device_step(device, SNJOFRASK_LAST_TIME_MS + 1, 0), SNJOFRASK_REFUSAL_TIME));
+    CHECK(memcmp(device, &before, sizeof before) == 0);
+    CHECK(all_are(message, sizeof message, 0xEE) && all_are(reply, sizeof reply, 0xEE));
+    CHECK(snjofrask_device_new(device, SNJOFRASK_LARGEST_PAYLOAD + 1, 1) == SNJOFRASK_REFUSAL_MAXIMUM);
+    CHECK(memcmp(device, &before, sizeof before) == 0);
+}
+
+static void devices(void)
+{
+    snjofrask_device device;
+
+    memset(&device, 0xEE, sizeof device);
+    CHECK(snjofrask_device_new(&device, SNJOFRASK_LARGEST_PAYLOAD, 1) == 0);
+    CHECK(device.hid.max == SNJOFRASK_LARGEST_PAYLOAD && device.hid.u2f != 0);
+    CHECK(device.hid.allocated == 0 && device.hid.locked == 0 && device.hid.lock == 0 && device.hid.last == 0);
+    CHECK(device.hid.assembler.len == 0 && device.wink == 0);
+    device_messages(&device);
+    device_questions(&device);
+    device_refusals(&device);
+
+    /* without U2F */
+    CHECK(snjofrask_device_new(&device, 57, 0) == 0 && device.hid.max == 57 && device.hid.u2f == 0);
+    put(SNJOFRASK_CHANNEL_BROADCAST, SNJOFRASK_CMD_INIT, 8, 0);
+    CHECK(is(device_step(&device, 0, 0), SNJOFRASK_KIND_REPLY, SNJOFRASK_CHANNEL_BROADCAST, SNJOFRASK_CMD_INIT, 17));
+    CHECK(reply[16] == (SNJOFRASK_CAPABILITY_WINK | SNJOFRASK_CAPABILITY_CBOR | SNJOFRASK_CAPABILITY_NMSG));
+    put(1, SNJOFRASK_CMD_MSG, 8, 0);
+    CHECK(is(device_step(&device, 0, 0), SNJOFRASK_KIND_REPLY, 1, SNJOFRASK_CMD_ERROR, 1));
+    CHECK(reply[0] == SNJOFRASK_ERR_INVALID_CMD);
+    put(1, SNJOFRASK_CMD_PING, 58, 0);
+    CHECK(is(device_step(&device, 0, 0), SNJOFRASK_KIND_REPLY, 1, SNJOFRASK_CMD_ERROR, 1));
+    CHECK(reply[0] == SNJOFRASK_ERR_INVALID_LEN);
+}
+
+static void transports(void)
+{
+    snjofrask_transport transport;
+    snjofrask_transport before;
+
+    CHECK(snjofrask_transport_new(&transport, 100, 0) == 0);
+    CHECK(transport.max == 100 && transport.u2f == 0 && transport.allocated == 0);
+    CHECK(snjofrask_is_locked(&transport, 0) == 0);
+    put(SNJOFRASK_CHANNEL_BROADCAST, SNJOFRASK_CMD_INIT, 8, 0);
+    CHECK(is(transport_step(&transport, 0, 0), SNJOFRASK_KIND_REPLY, SNJOFRASK_CHANNEL_BROADCAST, SNJOFRASK_CMD_INIT, 17));
+    put(1, SNJOFRASK_CMD_WINK, 0, 0);
+    CHECK(is(transport_step(&transport, 0, 0), SNJOFRASK_KIND_MESSAGE, 1, SNJOFRASK_CMD_WINK, 0));
+    put(1, SNJOFRASK_CMD_MSG, 5, 0);
+    CHECK(is(transport_step(&transport, 0, 0), SNJOFRASK_KIND_MESSAGE, 1, SNJOFRASK_CMD_MSG, 5));
+    put(1, SNJOFRASK_CMD_PING, 5, 0);
+    CHECK(is(transport_step(&transport, 0, 0), SNJOFRASK_KIND_ECHO, 1, SNJOFRASK_CMD_PING, 5));
+    put(1, SNJOFRASK_CMD_PING, 58, 1);
+    CHECK(is(transport_step(&transport, 0, 0), SNJOFRASK_KIND_NOTHING, 0, 0, 0));
+    CHECK(is(transport_step(&transport, 0, 1), SNJOFRASK_KIND_REPLY, 1, SNJOFRASK_CMD_ERROR, 1));
+    before = transport;
+    CHECK(is_refused(snjofrask_transport_step(&transport, 1, 0, packet, 65, message, 100, reply, 17), SNJOFRASK_REFUSAL_PACKET_SIZE));
+    CHECK(is_refused(snjofrask_transport_step(&transport, 1, 0, packet, 64, message, 99, reply, 17), SNJOFRASK_REFUSAL_SHORT_BUFFER));
+    CHECK(is_refused(transport_step(&transport, SNJOFRASK_LAST_TIME_MS + 1, 0), SNJOFRASK_REFUSAL_TIME));
+    CHECK(snjofrask_transport_new(&transport, SNJOFRASK_LARGEST_PAYLOAD + 1, 0) == SNJOFRASK_REFUSAL_MAXIMUM);
+    CHECK(memcmp(&transport, &before, sizeof before) == 0);
+}
+
+static snjofrask_outcome host_read(snjofrask_collection *collection, size_t buffer_len)
+{
+    return snjofrask_host_read(collection, 7, packet, sizeof packet, message, buffer_len);
+}
+
+static void hosts(void)
+{
+    static const uint8_t welcome[] = {1, 2, 3, 4, 5, 6, 7, 8, 0x12, 0x34, 0x56, 0x78, 2, 3, 4, 6, 5};
+    snjofrask_collection collection;
+    snjofrask_collection before;
+    snjofrask_init_outcome fields;
+
+    memset(&collection, 0, sizeof collection);
+    memset(message, 0xEE, sizeof message);
+    put(8, SNJOFRASK_CMD_PING, 58, 0);
+    CHECK(is(host_read(&collection, 100), SNJOFRASK_KIND_IGNORED, 0, 0, 0));
+    put(7, SNJOFRASK_CMD_KEEPALIVE, 1, 0);
+    packet[7] = SNJOFRASK_STATUS_UPNEEDED;
+    CHECK(is(host_read(&collection, 100), SNJOFRASK_KIND_KEEPALIVE, 0, SNJOFRASK_STATUS_UPNEEDED, 0));
+    put(7, SNJOFRASK_CMD_PING, 101, 0);
+    CHECK(is_refused(host_read(&collection, 100), SNJOFRASK_REFUSAL_LONG_REPLY));
+    CHECK(collection.len == 0 && all_are(message, sizeof message, 0xEE));
+    put(7, SNJOFRASK_CMD_PING, 100, 0);
+    CHECK(is(host_read(&collection, 100), SNJOFRASK_KIND_WAITING, 0, 0, 0));
+    CHECK(collection.len == 100 && collection.taken == 57 && collection.cmd == SNJOFRASK_CMD_PING && collection.seq == 0);
+    before = collection;
+    CHECK(is_refused(host_read(&collection, 100), SNJOFRASK_REFUSAL_SEQUENCE));
+    CHECK(is_refused(snjofrask_host_read(&collection, 7, packet, 63, message, 100), SNJOFRASK_REFUSAL_PACKET_SIZE));
+    CHECK(is_refused(host_read(&collection, 99), SNJOFRASK_REFUSAL_UNSOUND));
+    CHECK(memcmp(&collection, &before, sizeof before) == 0);
+    put(7, SNJOFRASK_CMD_PING, 100, 1);
+    CHECK(is(host_read(&collection, 100), SNJOFRASK_KIND_COLLECTED, 0, SNJOFRASK_CMD_PING, 100));
+    CHECK(memcmp(message, payload, 100) == 0 && message[100] == 0xEE && collection.len == 0);
+    CHECK(is(host_read(&collection, 100), SNJOFRASK_KIND_IGNORED, 0, 0, 0));
+
+    fields = snjofrask_init_reply(SNJOFRASK_CMD_INIT, welcome, sizeof welcome);
+    CHECK(fields.refusal == 0 && fields.spare == 0 && fields.cid == 0x12345678 && memcmp(fields.nonce, welcome, 8) == 0);
+    CHECK(fields.protocol == 2 && fields.major == 3 && fields.minor == 4 && fields.build == 6);
+    CHECK(fields.capabilities == (SNJOFRASK_CAPABILITY_WINK | SNJOFRASK_CAPABILITY_CBOR));
+    fields = snjofrask_init_reply(SNJOFRASK_CMD_PING, welcome, sizeof welcome);
+    CHECK(fields.refusal == SNJOFRASK_REFUSAL_NOT_INIT && fields.cid == 0 && fields.capabilities == 0 && all_are(fields.nonce, 8, 0));
+    fields = snjofrask_init_reply(SNJOFRASK_CMD_INIT, welcome, sizeof welcome - 1);
+    CHECK(fields.refusal == SNJOFRASK_REFUSAL_NOT_INIT);
+}
+
+int main(void)
+{
+    for (size_t i = 0; i < sizeof payload; i++)
+        payload[i] = (uint8_t)(i + 1);
+    packets();
+    devices();
+    transports();
+    hosts();
+    return failures == 0 ? 0 : 1;
+}
