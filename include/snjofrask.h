@@ -2,7 +2,7 @@
  * Snjofrask: CTAPHID, FIDO messages over USB HID in packets of 64 bytes, for C11 and C++17.
  *
  * Link target/staticlib/libsnjofrask.a, which `rt staticlib snjofrask` writes, for x86-64 with the System V calling
- * convention. It allocates nothing, keeps nothing between calls, and calls nothing outside but, at most, memset.
+ * convention. It allocates nothing, keeps nothing between calls, and calls nothing outside.
  *
  * What is proved holds for callers that keep to this:
  *  - Every pointer is valid for the count after it, or for its struct, is aligned as its type, and is not null, also

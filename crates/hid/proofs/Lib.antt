@@ -3,6 +3,7 @@ pub mod Serving
 pub mod Sound
 pub mod Hearing
 pub mod Refusing
+pub mod Shortening
 pub mod Finishing
 pub mod Payloads
 pub mod Refines

@@ -2,6 +2,7 @@ pub mod Meaning
 pub mod Soundness
 pub mod Receiving
 pub mod Serving
+pub mod Shortcut
 pub mod Asking
 pub mod Outer
 pub mod Refining

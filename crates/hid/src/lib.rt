@@ -4,6 +4,7 @@ mod channels;
 mod main_hid;
 mod parts;
 mod receive;
+mod shortcut;
 mod soundness;
 mod transport;
 

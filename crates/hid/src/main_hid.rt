@@ -5,6 +5,8 @@ use crate::MainHid;
 use crate::MainReady;
 use crate::MainStepped;
 use crate::Running;
+use crate::shortcut::Shortcut;
+use crate::shortcut::shorten;
 use crate::transport::fresh;
 use crate::transport::process_packet;
 use crate::transport::refusal;
@@ -55,9 +57,14 @@ impl MainHid {
         if number != 0 {
             return with_wink(hid, self.wink, Answer::Refused(number));
         }
-        let stepped = process_packet(hid, time, disabled, packet, message, reply);
-        let answer = stepped.answer;
-        finish(stepped.hid, self.wink, answer, reply)
+        match shorten(hid, time, disabled, packet, message) {
+            Shortcut::Taken(next) => with_wink(next, self.wink, Answer::Nothing),
+            Shortcut::Open => {
+                let stepped = process_packet(hid, time, disabled, packet, message, reply);
+                let answer = stepped.answer;
+                finish(stepped.hid, self.wink, answer, reply)
+            }
+        }
     }
 
     // Whether a wink runs at a time. Refusals 3 and 4.

@@ -14,6 +14,8 @@ use crate::channels::not_valid;
 use crate::channels::preprocess_message;
 use crate::receive::Received;
 use crate::receive::parse_packet;
+use crate::shortcut::Shortcut;
+use crate::shortcut::shorten;
 use crate::soundness::is_sound;
 use packet::CtapHidError;
 use packet::Limits;
@@ -95,18 +97,13 @@ pub(crate) fn at_time(hid: CtapHid, time: u64) -> CtapHid
     with_assembler(hid, time, assembler)
 }
 
-fn with_assembler(hid: CtapHid, last: u64, assembler: MessageAssembler) -> CtapHid
+pub(crate) fn with_assembler(hid: CtapHid, last: u64, assembler: MessageAssembler) -> CtapHid
     ensures { λ r. ⌜ r ≡ having hid last assembler ⌝ }
 {
-    CtapHid {
-        assembler,
-        lock: hid.lock,
-        last,
-        allocated: hid.allocated,
-        locked: hid.locked,
-        max: hid.max,
-        u2f: hid.u2f,
-    }
+    let mut next = hid;
+    next.assembler = assembler;
+    next.last = last;
+    next
 }
 
 // Checks 3 to 7.
@@ -224,7 +221,10 @@ impl CtapHid {
         if number != 0 {
             return refused(self, number);
         }
-        process_packet(self, time, disabled, packet, message, reply)
+        match shorten(self, time, disabled, packet, message) {
+            Shortcut::Taken(next) => no_message(next),
+            Shortcut::Open => process_packet(self, time, disabled, packet, message, reply),
+        }
     }
 
     // Whether a lock runs at a time. Refusals 3 and 4.

@@ -11,6 +11,8 @@ ghost use mathlib.Core.Path.{_≡_};
 ghost use mathlib.Core.List.{[], _∷_, _++_};
 ghost use Prim.Native.Nat.{_+_, _-_, _/_, _*_, _≤_, _<_};
 ghost use lib.ListN.{length, take, drop, replicate};
+ghost use lib.Dec.{eqb};
+ghost use Rattle.ctaphid.specs.Choice.{pick};
 ghost use Rattle.ctaphid.specs.Packets.{four, initialization, continuation, written};
 ghost use Rattle.ctaphid.specs.Messages.{padded};
 ghost use Rattle.send.specs.Sending.{countOf, left, writeOf, splitOf};
@@ -53,11 +55,13 @@ pub fn write_packet(cid: u32, cmd: u8, payload: &[u8], index: usize, packet: &mu
     if index >= packets_in(payload.len()) {
         return Written::Refused(6);
     }
+    let at = data_at(index);
+    consume_data(packet, front_size(index), &payload[at..]);
     if index == 0 {
-        init_packet(cid, cmd, payload, packet);
+        init_packet(cid, cmd, payload.len(), packet);
         return Written::Packet;
     }
-    continuation_packet(cid, payload, index, packet);
+    continuation_packet(cid, index, packet);
     Written::Packet
 }
 
@@ -93,23 +97,45 @@ fn packets_in(len: usize) -> usize
     1 + (len + 1) / 59
 }
 
-fn init_packet(cid: u32, cmd: u8, payload: &[u8], packet: &mut [u8])
-    requires { ⌜ (cmd ≤ 127) × (length (now payload) ≤ 7609) × (length (now packet) ≡ 64) ⌝ }
-    ensures { λ _. ⌜ now (packet .exit) ≡ written (initialization cid cmd (length (now (payload .entry))) (padded 57 (take 57 (now (payload .entry))))) ⌝ }
+// How many bytes stand before a packet's data.
+fn front_size(index: usize) -> usize
+    ensures { λ r. ⌜ r ≡ pick (eqb index 0) 7 5 ⌝ }
+    ensures { λ r. ⌜ r ≤ 7 ⌝ }
 {
-    let len = payload.len();
-    let front = head(cid, cmd + 0x80, (len / 0x100) as u8, (len % 0x100) as u8);
-    fill(packet, &front, payload);
+    if index == 0 {
+        return 7;
+    }
+    5
 }
 
-fn continuation_packet(cid: u32, payload: &[u8], index: usize, packet: &mut [u8])
-    requires { ⌜ (1 ≤ index) × (index ≤ 128) × (57 + 59 * (index - 1) ≤ length (now payload)) × (length (now packet) ≡ 64) ⌝ }
-    ensures { λ _. ⌜ now (packet .exit) ≡ written (continuation cid (index - 1) (padded 59 (take 59 (drop (57 + 59 * (index - 1)) (now (payload .entry)))))) ⌝ }
+// Where a packet's data begins in the payload. At index 0 the difference is 0.
+fn data_at(index: usize) -> usize
+    requires { ⌜ index ≤ 128 ⌝ }
+    ensures { λ r. ⌜ r ≡ 59 * index - 2 ⌝ }
+{
+    if index == 0 {
+        return 0;
+    }
+    let seq = index - 1;
+    57 + 59 * seq
+}
+
+// The front of a packet whose data is there.
+fn init_packet(cid: u32, cmd: u8, len: usize, packet: &mut [u8])
+    requires { ⌜ (cmd ≤ 127) × (len ≤ 7609) × (length (now packet) ≡ 64) ⌝ }
+    ensures { λ _. ⌜ now (packet .exit) ≡ written (initialization cid cmd len (drop 7 (now (packet .entry)))) ⌝ }
+{
+    let front = head(cid, cmd + 0x80, (len / 0x100) as u8, (len % 0x100) as u8);
+    bytes::copy(&front, packet);
+}
+
+fn continuation_packet(cid: u32, index: usize, packet: &mut [u8])
+    requires { ⌜ (1 ≤ index) × (index ≤ 128) × (length (now packet) ≡ 64) ⌝ }
+    ensures { λ _. ⌜ now (packet .exit) ≡ written (continuation cid (index - 1) (drop 5 (now (packet .entry)))) ⌝ }
 {
     let seq = index - 1;
-    let at = 57 + 59 * seq;
     let front = head(cid, seq as u8, 0, 0);
-    fill(packet, &front[..5], &payload[at..]);
+    bytes::copy(&front[..5], packet);
 }
 
 // The channel and the three bytes after it, of which a continuation has the first.
@@ -127,27 +153,18 @@ fn head(cid: u32, a: u8, b: u8, c: u8) -> [u8; 7]
     ]
 }
 
-// A packet's front, and then its data.
-fn fill(packet: &mut [u8], front: &[u8], data: &[u8])
-    requires { ⌜ length (now front) ≤ length (now packet) ⌝ }
-    ensures { λ _. ⌜ now (packet .exit) ≡ now (front .entry) ++ padded (length (now (packet .entry)) - length (now (front .entry))) (take (length (now (packet .entry)) - length (now (front .entry))) (now («data» .entry))) ⌝ }
+// A packet's data, after a front of so many bytes: as many bytes as there is room for, and zeros where there are fewer. The front is left open.
+// All is cleared at once, because a size that is known compiles to a few stores, and another to a call of memset.
+fn consume_data(packet: &mut [u8], front: usize, data: &[u8])
+    requires { ⌜ front ≤ length (now packet) ⌝ }
+    ensures { λ _. ⌜ drop front (now (packet .exit)) ≡ padded (length (now (packet .entry)) - front) (take (length (now (packet .entry)) - front) (now («data» .entry))) ⌝ }
 {
-    bytes::copy(front, packet);
-    let at = front.len();
-    consume_data(&mut packet[at..], data);
-}
-
-// As many bytes of the data as there is room for, and zeros where there are fewer.
-fn consume_data(dst: &mut [u8], data: &[u8])
-    ensures { λ _. ⌜ now (dst .exit) ≡ padded (length (now (dst .entry))) (take (length (now (dst .entry))) (now («data» .entry))) ⌝ }
-{
-    let room = dst.len();
-    let len = data.len();
-    if len < room {
-        bytes::copy(data, dst);
-        clear(&mut dst[len..]);
+    let room = packet.len() - front;
+    if data.len() < room {
+        clear(packet);
+        bytes::copy(data, &mut packet[front..]);
     } else {
-        bytes::copy(&data[..room], dst);
+        bytes::copy(&data[..room], &mut packet[front..]);
     }
 }
 

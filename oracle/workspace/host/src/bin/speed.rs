@@ -1,0 +1,379 @@
+//! Work for speed/run to count: rows of docs/SPEED.md, each so many times.
+//!   speed JOB=COUNT ...   each job in its turn, with a call of speed_mark before each and after the last
+//!   speed --jobs          the jobs, SIDE:WHAT:ROW
+//!   speed --check         compares what the two sides answer to each row, packet for packet
+#[allow(dead_code)]
+#[path = "diff/ours.rs"]
+mod ours;
+
+use host::HostEnv;
+use opensk::ctap::CtapState;
+use opensk::ctap::hid::{CtapHid, HidPacket};
+use opensk::ctap::main_hid::MainHid;
+use ours::{COLLECTED, ECHO, MESSAGE, REPLY};
+use std::hint::black_box;
+
+const LARGEST: usize = 7609;
+const BROADCAST: u32 = 0xffff_ffff;
+const PING: u8 = 1;
+const LOCK: u8 = 4;
+const INIT: u8 = 6;
+
+/// Every step is at this time, so that no timer elapses.
+const TIME: u64 = 5;
+
+// ---- the rows
+
+struct Row {
+    name: &'static str,
+    /// What comes first, and is not counted.
+    before: Vec<HidPacket>,
+    /// One message.
+    packets: Vec<HidPacket>,
+}
+
+impl Row {
+    /// Its message, with nothing before.
+    fn alone(&self) -> Row {
+        Row {
+            before: vec![],
+            packets: self.packets.clone(),
+            ..*self
+        }
+    }
+}
+
+fn rows() -> Vec<Row> {
+    // two channels
+    let open = [init(), init()].concat();
+    let long = message(1, PING, LARGEST);
+    let half = [&open[..], &long[..1]].concat();
+    let mut lock = message(1, LOCK, 1);
+    lock[0][7] = 10;
+    let spurious = long[1..2].to_vec();
+    let row = |name, before: &[HidPacket], packets| Row {
+        name,
+        before: before.to_vec(),
+        packets,
+    };
+    vec![
+        row("ping-0", &open, message(1, PING, 0)),
+        row("ping-57", &open, message(1, PING, 57)),
+        row("ping-58", &open, message(1, PING, 58)),
+        row("ping-1000", &open, message(1, PING, 1000)),
+        row("ping-7609", &open, long),
+        row("init", &open, init()),
+        row("invalid-channel", &open, message(9, PING, 0)),
+        row("channel-busy", &half, message(2, PING, 0)),
+        row("spurious", &open, spurious),
+        row("lock", &open, lock),
+    ]
+}
+
+fn init() -> Vec<HidPacket> {
+    message(BROADCAST, INIT, 8)
+}
+
+fn message(cid: u32, cmd: u8, len: usize) -> Vec<HidPacket> {
+    let payload: Vec<u8> = (0..len).map(|i| i as u8).collect();
+    let (first, rest) = payload.split_at(len.min(57));
+    let front = [cmd | 0x80, (len >> 8) as u8, len as u8];
+    let mut packets = vec![packet(cid, &front, first)];
+    for (seq, data) in rest.chunks(59).enumerate() {
+        packets.push(packet(cid, &[seq as u8], data));
+    }
+    packets
+}
+
+fn packet(cid: u32, front: &[u8], data: &[u8]) -> HidPacket {
+    let bytes = [&cid.to_be_bytes(), front, data].concat();
+    let mut packet = [0; 64];
+    packet[..bytes.len()].copy_from_slice(&bytes);
+    packet
+}
+
+// ---- the sides
+
+/// Takes a packet, and hands what it answers to a sink.
+trait Side {
+    fn step(&mut self, packet: &HidPacket, sink: &mut impl FnMut(&[u8]));
+}
+
+/// OpenSK's transport: the message, dropped.
+struct RustReceived {
+    env: HostEnv,
+    hid: CtapHid<HostEnv>,
+}
+
+impl Side for RustReceived {
+    #[inline(always)]
+    fn step(&mut self, packet: &HidPacket, sink: &mut impl FnMut(&[u8])) {
+        let answer = self.hid.parse_packet(&mut self.env, packet, false);
+        if let Some(message) = answer {
+            sink(&message.payload);
+        }
+    }
+}
+
+/// OpenSK's device: the iterator, dropped before or after all packets were drawn.
+struct RustDevice<const DRAWN: bool> {
+    env: HostEnv,
+    hid: MainHid<HostEnv>,
+    authenticator: CtapState<HostEnv>,
+}
+
+impl<const DRAWN: bool> Side for RustDevice<DRAWN> {
+    #[inline(always)]
+    fn step(&mut self, packet: &HidPacket, sink: &mut impl FnMut(&[u8])) {
+        let RustDevice {
+            env,
+            hid,
+            authenticator,
+        } = self;
+        let packets = hid.process_hid_packet(env, packet, false, authenticator);
+        if DRAWN {
+            for packet in packets {
+                sink(&packet);
+            }
+        } else {
+            black_box(&packets);
+        }
+    }
+}
+
+struct OursReceived {
+    hid: ours::CtapHid,
+    message: Vec<u8>,
+    reply: Vec<u8>,
+}
+
+impl Side for OursReceived {
+    #[inline(always)]
+    fn step(&mut self, packet: &HidPacket, sink: &mut impl FnMut(&[u8])) {
+        let OursReceived {
+            hid,
+            message,
+            reply,
+        } = self;
+        let outcome = ours::transport_step(hid, TIME, false, packet, message, reply);
+        match outcome.kind {
+            MESSAGE | ECHO => sink(&message[..outcome.len]),
+            REPLY => sink(&reply[..outcome.len]),
+            _ => (),
+        }
+    }
+}
+
+struct OursDevice<const DRAWN: bool> {
+    hid: ours::MainHid,
+    message: Vec<u8>,
+    reply: Vec<u8>,
+}
+
+impl<const DRAWN: bool> Side for OursDevice<DRAWN> {
+    #[inline(always)]
+    fn step(&mut self, packet: &HidPacket, sink: &mut impl FnMut(&[u8])) {
+        let OursDevice {
+            hid,
+            message,
+            reply,
+        } = self;
+        let outcome = ours::device_step(hid, TIME, false, packet, message, reply);
+        if !DRAWN {
+            black_box(&outcome);
+            return;
+        }
+        let payload = match outcome.kind {
+            ECHO => &message[..outcome.len],
+            REPLY => &reply[..outcome.len],
+            _ => return,
+        };
+        let mut packet = [0; 64];
+        for index in 0..ours::packet_count(payload.len()).len {
+            ours::write_packet(outcome.cid, outcome.cmd, payload, index, &mut packet);
+            sink(&packet);
+        }
+    }
+}
+
+/// Our host reader, on the channel that the long message is on. OpenSK has none.
+struct OursHost {
+    collection: ours::Collection,
+    buffer: Vec<u8>,
+}
+
+impl Side for OursHost {
+    #[inline(always)]
+    fn step(&mut self, packet: &HidPacket, sink: &mut impl FnMut(&[u8])) {
+        let outcome = ours::host_read(&mut self.collection, 1, packet, &mut self.buffer);
+        if outcome.kind == COLLECTED {
+            sink(&self.buffer[..outcome.len]);
+        }
+    }
+}
+
+/// No protocol at all: each packet's data, 57 and then 59 bytes, is copied to its place.
+struct Copy {
+    buffer: Vec<u8>,
+    at: usize,
+}
+
+impl Side for Copy {
+    #[inline(always)]
+    fn step(&mut self, packet: &HidPacket, sink: &mut impl FnMut(&[u8])) {
+        let from = if self.at == 0 { 7 } else { 5 };
+        let len = (64 - from).min(self.buffer.len() - self.at);
+        self.buffer[self.at..self.at + len].copy_from_slice(&packet[from..from + len]);
+        self.at += len;
+        if self.at == self.buffer.len() {
+            sink(&self.buffer);
+            self.at = 0;
+        }
+    }
+}
+
+// ---- jobs
+
+const JOBS: [&str; 6] = [
+    "rust:received",
+    "rust:device",
+    "rust:drawn",
+    "ours:received",
+    "ours:device",
+    "ours:drawn",
+];
+
+/// Feeds a row's packets so many times, after what comes before.
+fn feed(mut side: impl Side, row: &Row, count: usize, mut sink: impl FnMut(&[u8])) {
+    for packet in &row.before {
+        side.step(packet, &mut |_| ());
+    }
+    speed_mark();
+    for _ in 0..count {
+        for packet in &row.packets {
+            // the state is in memory and the packet is not known beforehand
+            black_box(&mut side).step(black_box(packet), &mut sink);
+        }
+    }
+    speed_mark();
+}
+
+/// callgrind counts from one call of this to the next.
+#[unsafe(no_mangle)]
+#[inline(never)]
+extern "C" fn speed_mark() {
+    black_box(());
+}
+
+fn env() -> HostEnv {
+    let mut env = HostEnv::new(LARGEST);
+    env.now.0 = TIME;
+    env
+}
+
+fn rust_device<const DRAWN: bool>() -> RustDevice<DRAWN> {
+    let mut env = env();
+    RustDevice {
+        authenticator: CtapState::new(&mut env),
+        env,
+        hid: MainHid::default(),
+    }
+}
+
+fn ours_device<const DRAWN: bool>() -> OursDevice<DRAWN> {
+    OursDevice {
+        hid: ours::device_new(LARGEST, true).0,
+        message: vec![0; LARGEST],
+        reply: vec![0; 17],
+    }
+}
+
+fn run(job: &str, row: &Row, count: usize, sink: impl FnMut(&[u8])) {
+    match job {
+        "rust:received" => {
+            let side = RustReceived {
+                env: env(),
+                hid: CtapHid::new(5),
+            };
+            feed(side, row, count, sink)
+        }
+        "rust:device" => feed(rust_device::<false>(), row, count, sink),
+        "rust:drawn" => feed(rust_device::<true>(), row, count, sink),
+        "ours:received" => {
+            let side = OursReceived {
+                hid: ours::transport_new(LARGEST, true).0,
+                message: vec![0; LARGEST],
+                reply: vec![0; 17],
+            };
+            feed(side, row, count, sink)
+        }
+        "ours:device" => feed(ours_device::<false>(), row, count, sink),
+        "ours:drawn" => feed(ours_device::<true>(), row, count, sink),
+        "ours:host" => {
+            let side = OursHost {
+                collection: ours::Collection::default(),
+                buffer: vec![0; LARGEST],
+            };
+            feed(side, &row.alone(), count, sink)
+        }
+        "copy:received" => {
+            let side = Copy {
+                buffer: vec![0; LARGEST],
+                at: 0,
+            };
+            feed(side, &row.alone(), count, sink)
+        }
+        _ => panic!("no job {job}"),
+    }
+}
+
+fn check(rows: &[Row]) {
+    for row in rows {
+        for what in ["received", "drawn"] {
+            let [rust, ours] = ["rust", "ours"].map(|side| {
+                let mut said = vec![];
+                run(&format!("{side}:{what}"), row, 3, |bytes| {
+                    said.push(bytes.to_vec())
+                });
+                said
+            });
+            assert_eq!(rust, ours, "{what} {}", row.name);
+        }
+    }
+    let long = rows.iter().find(|row| row.name == "ping-7609").unwrap();
+    let mut copied = vec![];
+    run("copy:received", long, 1, |bytes| copied = bytes.to_vec());
+    run("ours:received", long, 1, |bytes| assert_eq!(bytes, copied));
+    let mut replies = 0;
+    run("ours:host", long, 3, |bytes| {
+        assert_eq!(bytes, copied);
+        replies += 1;
+    });
+    assert_eq!(replies, 3);
+}
+
+fn main() {
+    let rows = rows();
+    for word in std::env::args().skip(1) {
+        match &word[..] {
+            "--check" => check(&rows),
+            "--jobs" => {
+                for job in JOBS {
+                    for row in &rows {
+                        println!("{job}:{}", row.name);
+                    }
+                }
+                println!("ours:host:ping-7609");
+                println!("copy:received:ping-7609");
+            }
+            _ => {
+                let (job, count) = word.split_once('=').expect("JOB=COUNT");
+                let (job, name) = job.rsplit_once(':').expect("SIDE:WHAT:ROW");
+                let row = rows.iter().find(|row| row.name == name).expect("a row");
+                run(job, row, count.parse().expect("a count"), |bytes| {
+                    black_box(bytes);
+                });
+            }
+        }
+    }
+}
