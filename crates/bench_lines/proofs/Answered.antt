@@ -1,7 +1,6 @@
 -- What a line leaves, by its reading. Assumes nothing.
 use Prim.Native.Nat.{ℕ, _<_, _≤_}
 use mathlib.Core.Path.{_≡_, refl, sym, ap, _∙_}
-use mathlib.Core.Bool.{Bool}
 use mathlib.Core.List.{List}
 use borrow.Author.Tests.{lt-ltb, le-ltb, eq-eqb}
 use lib.ListN.{length}
@@ -10,7 +9,7 @@ use Rattle.hid.specs.Outer.{MainStepping, mainStepping, mainStepOf}
 use Rattle.hid.specs.declared.MainHid.{MainHid}
 use Rattle.hid.specs.declared.MainStepped.{MainStepped}
 use Rattle.bench_lines.specs.Lines.{Reading, reads, unread, lineOf, Read, read, readInto, readLineOf}
-use Rattle.bench_lines.specs.Printing.{Printing, printing, printed, textOf}
+use Rattle.bench_lines.specs.Printing.{printing, printed, textOf}
 use Rattle.bench_lines.specs.Answering.{Benched, benched, unreadLine, leaves, stepOn, lineOn, benchOf}
 use Rattle.bench_lines.specs.declared.Line.{Line}
 use Rattle.bench_lines.specs.declared.Line.the-variants as line

@@ -1,5 +1,5 @@
 -- What is kept of a line, by what there is room for, and the tests of `cutOf`. Assumes nothing.
-use Prim.Native.Nat.{ℕ, _+_, _-_, suc, min, _≤_, _<_}
+use Prim.Native.Nat.{ℕ, _+_, _-_, min, _≤_, _<_}
 use native.Mathlib.Omega.{arith}
 use mathlib.Core.Path.{_≡_, refl, sym, ap, _∙_}
 use mathlib.Core.List.{List, _++_}

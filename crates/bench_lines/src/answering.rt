@@ -10,10 +10,9 @@ use hid::MainHid;
 ghost use mathlib.Core.Path.{_≡_};
 ghost use Prim.Native.Nat.{_≤_};
 ghost use lib.ListN.{length};
-ghost use Rattle.ctaphid.specs.Packets.{Bytes};
 ghost use Rattle.hid.specs.Outer.{mainStepOf};
 ghost use Rattle.bench_lines.specs.Printing.{printing, printed};
-ghost use Rattle.bench_lines.specs.Answering.{benched, benchOf, lineOn, stepOn, unreadLine};
+ghost use Rattle.bench_lines.specs.Answering.{benched, benchOf, stepOn, unreadLine};
 
 // A line, without its newline, goes to the device, and out's front gets what is printed. A buffer shorter than the longest text is refused with 2, before
 // anything else.

@@ -11,7 +11,6 @@ mod transport;
 pub use channels::echo;
 use packet::CtapHidCommand;
 pub use parts::payload;
-ghost use mathlib.Core.Path.{_≡_};
 
 // Every state is numbers, without padding, so that one type serves Rattle, Rust and C. A timer is its deadline, 0 when unset.
 // A transaction: len is the declared length, and 0 where there is none.

@@ -5,7 +5,7 @@ use native.Mathlib.Decide.{decLe}
 use mathlib.Core.Path.{_≡_}
 use mathlib.Core.List.{List, [], _∷_, _++_, map}
 use lib.ListN.{length, take, drop, replicate, length-take, length-drop, drop-of-length-le}
-use Rattle.ctaphid.specs.Packets.{Packet, initialization, continuation, four, written, Bytes, Formed}
+use Rattle.ctaphid.specs.Packets.{initialization, continuation, four, written, Bytes, Formed}
 use Rattle.ctaphid.specs.Messages.{later, chunks, padded, fields, continuations, packets, wire}
 use Rattle.ctaphid.specs.Host.{Sendable}
 use Rattle.ctaphid.proofs.Packets.{written-length}

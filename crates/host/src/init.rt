@@ -5,7 +5,6 @@ use packet::CtapHidCommand;
 ghost use mathlib.Core.Path.{_≡_};
 ghost use mathlib.Core.List.{[], _∷_};
 ghost use Rattle.ctaphid.specs.Host.{initOf, initFields, initFieldsOf};
-ghost use Prim.Native.Nat.{_≤_};
 ghost use lib.ListN.{length};
 ghost use Rattle.host.specs.Meaning.{initReplyOf};
 

@@ -4,8 +4,6 @@ use Rattle.collect.specs.Standing.{isStanding}
 use borrow.Author.Needs.{needs}
 use Rattle.collect.proofs.stands.Statement.{statement}
 use Rattle.collect.proofs.stands.Tie as tie
-use Rattle.collect.proofs.stands.Reads as reads
-use Rattle.collect.proofs.stands.Lts as lts
 
 mul-at : tie.Need-mul-at
 mul-at c = search needs

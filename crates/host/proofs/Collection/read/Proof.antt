@@ -3,11 +3,6 @@ use Rattle.host.proofs.Refusing.{read-1, read-3, read-admitted, read-he
 use borrow.Author.Needs.{needs}
 use Rattle.host.proofs.Collection.read.Statement.{statement}
 use Rattle.host.proofs.Collection.read.Tie as tie
-use Rattle.host.proofs.Collection.read.Reads as reads
-use Rattle.host.proofs.Collection.read.Lts as lts
-use Rattle.host.proofs.receive.left.Reads as left-reads
-use Rattle.host.proofs.receive.read_packet.Reads as read-packet-reads
-use Rattle.host.proofs.soundness.is_sound.Reads as is-sound-reads
 
 left-requires : tie.Need-left-requires
 left-requires c κs = search needs

@@ -3,9 +3,6 @@ use Rattle.host.proofs.Fields.{fields-are}
 use borrow.Author.Needs.{needs}
 use Rattle.host.proofs.init.fields.Statement.{statement}
 use Rattle.host.proofs.init.fields.Tie as tie
-use Rattle.host.proofs.init.fields.Reads as reads
-use Rattle.host.proofs.init.fields.Lts as lts
-use Rattle.packet.proofs.be32.Reads as be32-reads
 
 shared-slice-read-be32 : tie.Need-shared-slice-read-be32
 shared-slice-read-be32 c = search needs

@@ -3,10 +3,6 @@ use Rattle.host.proofs.Fields.{init-other, init-size, init-whole}
 use borrow.Author.Needs.{needs}
 use Rattle.host.proofs.init.init_reply.Statement.{statement}
 use Rattle.host.proofs.init.init_reply.Tie as tie
-use Rattle.host.proofs.init.init_reply.Reads as reads
-use Rattle.host.proofs.init.init_reply.Lts as lts
-use Rattle.host.proofs.init.fields.Reads as fields-reads
-use Rattle.host.proofs.init.no_reply.Reads as no-reply-reads
 
 no-reply-requires : tie.Need-no-reply-requires
 no-reply-requires c κs = search needs

@@ -5,9 +5,6 @@ use Rattle.ctaphid.specs.Host.{alive}
 use borrow.Author.Needs.{needs}
 use Rattle.host.proofs.receive.alive.Statement.{statement}
 use Rattle.host.proofs.receive.alive.Tie as tie
-use Rattle.host.proofs.receive.alive.Reads as reads
-use Rattle.host.proofs.receive.alive.Lts as lts
-use Rattle.host.proofs.receive.left.Reads as left-reads
 
 left-requires : tie.Need-left-requires
 left-requires c κs = search needs

@@ -5,10 +5,6 @@ use Rattle.ctaphid.specs.Host.{begin}
 use borrow.Author.Needs.{needs}
 use Rattle.host.proofs.receive.begin.Statement.{statement}
 use Rattle.host.proofs.receive.begin.Tie as tie
-use Rattle.host.proofs.receive.begin.Reads as reads
-use Rattle.host.proofs.receive.begin.Lts as lts
-use Rattle.host.proofs.receive.gather.Reads as gather-reads
-use Rattle.host.proofs.receive.left.Reads as left-reads
 
 left-requires : tie.Need-left-requires
 left-requires c κs = search needs

@@ -4,10 +4,6 @@ use Rattle.host.proofs.Receiving.{hearing}
 use borrow.Author.Needs.{needs}
 use Rattle.host.proofs.receive.first.Statement.{statement}
 use Rattle.host.proofs.receive.first.Tie as tie
-use Rattle.host.proofs.receive.first.Reads as reads
-use Rattle.host.proofs.receive.first.Lts as lts
-use Rattle.host.proofs.receive.alive.Reads as alive-reads
-use Rattle.host.proofs.receive.begin.Reads as begin-reads
 
 alive-requires : tie.Need-alive-requires
 alive-requires c κs = search needs

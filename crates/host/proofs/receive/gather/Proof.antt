@@ -6,11 +6,6 @@ use Rattle.host.proofs.Receiving.{hearing, waits-low}
 use borrow.Author.Needs.{needs}
 use Rattle.host.proofs.receive.gather.Statement.{statement}
 use Rattle.host.proofs.receive.gather.Tie as tie
-use Rattle.host.proofs.receive.gather.Reads as reads
-use Rattle.host.proofs.receive.gather.Lts as lts
-use Rattle.collect.proofs.add_data.Reads as add-data-reads
-use Rattle.host.proofs.receive.finished.Reads as finished-reads
-use Rattle.host.proofs.receive.left.Reads as left-reads
 
 cast-len : tie.Need-cast-len
 cast-len c = search needs

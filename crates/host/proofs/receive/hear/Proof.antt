@@ -7,11 +7,6 @@ use Rattle.host.proofs.Sound.{taken-of, room-of, due-of}
 use borrow.Author.Needs.{needs}
 use Rattle.host.proofs.receive.hear.Statement.{statement}
 use Rattle.host.proofs.receive.hear.Tie as tie
-use Rattle.host.proofs.receive.hear.Reads as reads
-use Rattle.host.proofs.receive.hear.Lts as lts
-use Rattle.host.proofs.receive.first.Reads as first-reads
-use Rattle.host.proofs.receive.gather.Reads as gather-reads
-use Rattle.host.proofs.receive.left.Reads as left-reads
 
 enum-known-packet : tie.Need-enum-known-packet
 enum-known-packet c = search needs

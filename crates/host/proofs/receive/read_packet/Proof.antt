@@ -5,12 +5,6 @@ use Rattle.host.proofs.Refusing.{hears-packet, heard-packet}
 use borrow.Author.Needs.{needs}
 use Rattle.host.proofs.receive.read_packet.Statement.{statement}
 use Rattle.host.proofs.receive.read_packet.Tie as tie
-use Rattle.host.proofs.receive.read_packet.Reads as reads
-use Rattle.host.proofs.receive.read_packet.Lts as lts
-use Rattle.host.proofs.receive.hear.Reads as hear-reads
-use Rattle.host.proofs.receive.left.Reads as left-reads
-use Rattle.packet.proofs.packet_data.Reads as packet-data-reads
-use Rattle.packet.proofs.process_single_packet.Reads as process-single-packet-reads
 
 process-single-packet-requires : tie.Need-process-single-packet-requires
 process-single-packet-requires c κs = search needs

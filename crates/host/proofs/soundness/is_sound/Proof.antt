@@ -3,9 +3,6 @@ use Rattle.host.proofs.Sound.{sound-none, sound-over, sound-begun}
 use borrow.Author.Needs.{needs}
 use Rattle.host.proofs.soundness.is_sound.Statement.{statement}
 use Rattle.host.proofs.soundness.is_sound.Tie as tie
-use Rattle.host.proofs.soundness.is_sound.Reads as reads
-use Rattle.host.proofs.soundness.is_sound.Lts as lts
-use Rattle.collect.proofs.stands.Reads as stands-reads
 
 cast-len : tie.Need-cast-len
 cast-len c = search needs
