@@ -228,12 +228,14 @@ uint8_t snjofrask_device_new(snjofrask_device *hid, size_t max, uint8_t u2f);
  * A packet that came at a time. With disabled set, every packet on a valid channel, a broadcast INIT too, is told that
  * the device is busy.
  *
- * message has at least max bytes and is lent back untouched while a message is on its way in: its data is put together
- * there. reply has at least 17 bytes. Kinds:
+ * message has at least max bytes: a message is put together at its front. While one is on its way in (the assembler's
+ * len is not 0, and time is before its deadline), the first bytes of message, as many as its taken says, are as the step
+ * before left them. Nothing else is asked: past those bytes, and between messages all of it, the caller may write, and
+ * message may be another buffer each time. reply has at least 17 bytes, and may be another each time. Kinds:
  *  - NOTHING;
  *  - ECHO, REPLY: send the packets of cid, cmd and the payload, by snjofrask_write_packet;
  *  - MESSAGE: MSG or CBOR for the caller to answer on the same channel with the same command, by
- *    snjofrask_split_message. From then on message is free, until the next step;
+ *    snjofrask_split_message. Once the payload has been read, message is free, for the answer too;
  *  - REFUSED: by 1, 2, 3 or 4, in this order. hid, message and reply are as they came.
  */
 snjofrask_outcome snjofrask_device_step(snjofrask_device *hid, uint64_t time, uint8_t disabled, const uint8_t *packet,
@@ -286,8 +288,9 @@ uint8_t snjofrask_split_message(uint32_t cid, uint8_t cmd, const uint8_t *payloa
 /* ---- a host */
 
 /*
- * A packet that came, read for channel cid. Replies are put together in buffer, which is lent back untouched while one
- * is on its way in. A reply is at most as long as buffer. Kinds:
+ * A packet that came, read for channel cid. A reply is put together at the front of buffer, and is at most as long as
+ * it. While one is on its way in (collection->len is not 0), buffer has at least collection->len bytes, and the first
+ * collection->taken of them are as the call before left them. Nothing else is asked of it, as for a device. Kinds:
  *  - IGNORED, WAITING;
  *  - KEEPALIVE: status in cmd;
  *  - COLLECTED: the command as it stands in the packet, ERROR too, and the payload. The collection is fresh again;

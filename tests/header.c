@@ -267,6 +267,126 @@ static void hosts(void)
     CHECK(fields.refusal == SNJOFRASK_REFUSAL_NOT_INIT);
 }
 
+/* ---- buffers that are lent anew at every call */
+
+/* the device's maximum, and no byte more */
+#define LENT_SIZE 1024
+
+static uint8_t lent_buffers[2][LENT_SIZE];
+static uint8_t lent_replies[2][SNJOFRASK_SHORT_REPLY_SIZE];
+/* what the last call was lent */
+static uint8_t *lent = lent_buffers[0];
+static uint8_t *lent_reply = lent_replies[0];
+
+/* Moves to the other buffers, and keeps only so many bytes, as the last call left them, less those that are spoilt. Every other byte is wrong for payload. */
+static void lend_anew(size_t owed, size_t spoilt)
+{
+    const size_t kept = owed > spoilt ? owed - spoilt : 0;
+    uint8_t *const left = lent;
+
+    lent = lent_buffers[lent == lent_buffers[0]];
+    lent_reply = lent_replies[lent_reply == lent_replies[0]];
+    for (size_t i = 0; i < LENT_SIZE; i++) {
+        lent[i] = i < kept ? left[i] : (uint8_t)~payload[i];
+        left[i] = (uint8_t)~payload[i];
+    }
+    memset(lent_replies, 0xEE, sizeof lent_replies);
+}
+
+static snjofrask_outcome lent_step(snjofrask_device *device, uint64_t time, size_t spoilt)
+{
+    const snjofrask_assembler *on = &device->hid.assembler;
+
+    lend_anew(on->len != 0 && time < on->deadline ? on->taken : 0, spoilt);
+    return snjofrask_device_step(device, time, 0, packet, sizeof packet, lent, LENT_SIZE, lent_reply, sizeof lent_replies[0]);
+}
+
+static snjofrask_outcome lent_read(snjofrask_collection *collection, size_t spoilt)
+{
+    lend_anew(collection->len != 0 ? collection->taken : 0, spoilt);
+    return snjofrask_host_read(collection, 7, packet, sizeof packet, lent, LENT_SIZE);
+}
+
+/* whether a message to the device comes out as it was sent */
+static int arrives(snjofrask_device *device, uint64_t time, size_t len, size_t spoilt)
+{
+    const size_t last = snjofrask_packet_count(len).len - 1;
+
+    for (size_t index = 0; index < last; index++) {
+        put(1, SNJOFRASK_CMD_CBOR, len, index);
+        CHECK(is(lent_step(device, time, spoilt), SNJOFRASK_KIND_NOTHING, 0, 0, 0));
+    }
+    put(1, SNJOFRASK_CMD_CBOR, len, last);
+    CHECK(is(lent_step(device, time, spoilt), SNJOFRASK_KIND_MESSAGE, 1, SNJOFRASK_CMD_CBOR, len));
+    return memcmp(lent, payload, len) == 0;
+}
+
+/* whether a reply to the host does */
+static int returns(snjofrask_collection *collection, size_t len, size_t spoilt)
+{
+    const size_t last = snjofrask_packet_count(len).len - 1;
+
+    for (size_t index = 0; index < last; index++) {
+        put(7, SNJOFRASK_CMD_CBOR, len, index);
+        CHECK(is(lent_read(collection, spoilt), SNJOFRASK_KIND_WAITING, 0, 0, 0));
+    }
+    put(7, SNJOFRASK_CMD_CBOR, len, last);
+    CHECK(is(lent_read(collection, spoilt), SNJOFRASK_KIND_COLLECTED, 0, SNJOFRASK_CMD_CBOR, len));
+    return memcmp(lent, payload, len) == 0;
+}
+
+static void lending_to_a_device(void)
+{
+    snjofrask_device device;
+
+    CHECK(snjofrask_device_new(&device, LENT_SIZE, 1) == 0);
+    for (int channel = 1; channel <= 2; channel++) {
+        put(SNJOFRASK_CHANNEL_BROADCAST, SNJOFRASK_CMD_INIT, 8, 0);
+        CHECK(is(lent_step(&device, 0, 0), SNJOFRASK_KIND_REPLY, SNJOFRASK_CHANNEL_BROADCAST, SNJOFRASK_CMD_INIT, 17));
+        CHECK(memcmp(lent_reply, payload, 8) == 0 && lent_reply[11] == channel);
+    }
+    CHECK(arrives(&device, 10, LENT_SIZE, 0));
+    CHECK(arrives(&device, 20, LENT_SIZE, 0));
+
+    /* the answer goes out from the message buffer, which then takes the next message as it is */
+    memset(lent, 0xA5, LENT_SIZE);
+    CHECK(snjofrask_split_message(1, SNJOFRASK_CMD_CBOR, lent, LENT_SIZE, 0xF2, 0, packet, sizeof packet) == 0);
+    CHECK(all_are(packet + 7, 57, 0xA5));
+    put(1, SNJOFRASK_CMD_CBOR, 57, 0);
+    CHECK(is(snjofrask_device_step(&device, 30, 0, packet, sizeof packet, lent, LENT_SIZE, lent_reply, sizeof lent_replies[0]),
+             SNJOFRASK_KIND_MESSAGE, 1, SNJOFRASK_CMD_CBOR, 57));
+    CHECK(memcmp(lent, payload, 57) == 0 && all_are(lent + 57, LENT_SIZE - 57, 0xA5));
+
+    /* another channel is told to wait meanwhile, in the short buffer */
+    put(1, SNJOFRASK_CMD_CBOR, 58, 0);
+    CHECK(is(lent_step(&device, 40, 0), SNJOFRASK_KIND_NOTHING, 0, 0, 0));
+    put(2, SNJOFRASK_CMD_CBOR, 58, 0);
+    CHECK(is(lent_step(&device, 40, 0), SNJOFRASK_KIND_REPLY, 2, SNJOFRASK_CMD_ERROR, 1));
+    CHECK(lent_reply[0] == SNJOFRASK_ERR_CHANNEL_BUSY && all_are(lent_reply + 1, sizeof lent_replies[0] - 1, 0xEE));
+    put(1, SNJOFRASK_CMD_CBOR, 58, 1);
+    CHECK(is(lent_step(&device, 40, 0), SNJOFRASK_KIND_MESSAGE, 1, SNJOFRASK_CMD_CBOR, 58) && memcmp(lent, payload, 58) == 0);
+
+    /* nothing is owed of a message that has timed out */
+    put(1, SNJOFRASK_CMD_CBOR, LENT_SIZE, 0);
+    CHECK(is(lent_step(&device, 50, 0), SNJOFRASK_KIND_NOTHING, 0, 0, 0));
+    CHECK(arrives(&device, 50 + SNJOFRASK_TIMEOUT_MS, LENT_SIZE, 0));
+
+    /* and of one on its way in, all bytes taken */
+    CHECK(!arrives(&device, 200, 58, 1));
+}
+
+static void lending_to_a_host(void)
+{
+    snjofrask_collection collection;
+
+    memset(&collection, 0, sizeof collection);
+    CHECK(returns(&collection, LENT_SIZE, 0));
+    put(7, SNJOFRASK_CMD_KEEPALIVE, 1, 0);
+    CHECK(is(snjofrask_host_read(&collection, 7, packet, sizeof packet, lent, 0), SNJOFRASK_KIND_KEEPALIVE, 0, payload[0], 0));
+    CHECK(returns(&collection, LENT_SIZE, 0));
+    CHECK(!returns(&collection, 58, 1));
+}
+
 int main(void)
 {
     for (size_t i = 0; i < sizeof payload; i++)
@@ -275,5 +395,7 @@ int main(void)
     devices();
     transports();
     hosts();
+    lending_to_a_device();
+    lending_to_a_host();
     return failures == 0 ? 0 : 1;
 }

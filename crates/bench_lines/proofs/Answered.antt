@@ -5,17 +5,17 @@ use mathlib.Core.List.{List}
 use borrow.Author.Tests.{lt-ltb, le-ltb, eq-eqb}
 use lib.ListN.{length}
 use Rattle.ctaphid.specs.Choice.{pick}
-use Rattle.hid.specs.Outer.{MainStepping, mainStepping, mainStepOf}
+use Rattle.hid.specs.MainHid.{MainStepping, mainStepping, mainStepOf}
 use Rattle.hid.specs.declared.MainHid.{MainHid}
 use Rattle.hid.specs.declared.MainStepped.{MainStepped}
-use Rattle.bench_lines.specs.Lines.{Reading, reads, unread, lineOf, Read, read, readInto, readLineOf}
-use Rattle.bench_lines.specs.Printing.{printing, printed, textOf}
+use Rattle.bench_input.specs.Lines.{Reading, reads, unread, lineOf, Read, read, readInto, readLineOf}
+use Rattle.bench_output.specs.Printing.{printing, printed, textOf}
 use Rattle.bench_lines.specs.Answering.{Benched, benched, unreadLine, leaves, stepOn, lineOn, benchOf}
-use Rattle.bench_lines.specs.declared.Line.{Line}
-use Rattle.bench_lines.specs.declared.Line.the-variants as line
+use Rattle.bench_input.specs.declared.Line.{Line}
+use Rattle.bench_input.specs.declared.Line.the-variants as line
 use Rattle.bench_lines.specs.declared.Printed.{Printed}
-use Rattle.bench_lines.specs.declared.Text.{Text}
-use Rattle.bench_lines.specs.declared.Text.the-variants as text
+use Rattle.bench_output.specs.declared.Text.{Text}
+use Rattle.bench_output.specs.declared.Text.the-variants as text
 
 -- a step, and the text of its answer
 pub stepped-on : (s : MainStepped) (m r : List ℕ) {x : MainStepping} (t : Text) (out out′ : List ℕ)

@@ -1,13 +1,3 @@
-pub mod Kept
-pub mod Hex
-pub mod Digits
-pub mod Lines
-pub mod Placing
-pub mod Spelling
-pub mod Cutting
-pub mod Answers
-pub mod Standard
 pub mod Answered
+pub mod Standard
 pub mod Unique
-pub mod Examples
-pub mod ExampleLines

@@ -9,16 +9,18 @@ use Rattle.ctaphid.specs.Transport as standard
 use Rattle.ctaphid.specs.Transport.{nothing, reply, request}
 use Rattle.ctaphid.specs.Device.{deviceStep}
 use Rattle.packet.specs.Numbers.{commandMeant}
-use Rattle.hid.specs.declared.Answer.{Answer}
-use Rattle.hid.specs.declared.Answer.the-variants as answers
-use Rattle.hid.specs.Meaning.{Said, refused, answered, answerOf, said}
-use Rattle.hid.specs.Asking.{upTo, payloadOf}
-use Rattle.hid.specs.Outer.{MainStepping, deviceOf, mainHeardOf}
-use Rattle.hid.specs.Refining.{mainOnEvent}
-use Rattle.hid.proofs.Payloads.{up-to-fits}
-use Rattle.hid.proofs.Refines.{main-step-is, main-step-refines}
-use Rattle.bench_lines.specs.Printing.{answerLines, saidWith, printed, PrintsTheStandard}
-use Rattle.bench_lines.proofs.Answers.{text-is}
+use Rattle.answers.specs.declared.Answer.{Answer}
+use Rattle.answers.specs.declared.Answer.the-variants as answers
+use Rattle.answers.specs.Answers.{Said, refused, answered, answerOf, said}
+use Rattle.answers.specs.Payloads.{upTo, payloadOf}
+use Rattle.hid.specs.Meaning.{deviceOf}
+use Rattle.hid.specs.MainHid.{MainStepping, mainHeardOf}
+use Rattle.runs.specs.Steps.{mainOnEvent}
+use Rattle.answers.proofs.Fronts.{up-to-fits}
+use Rattle.runs.proofs.Refines.{main-step-is, main-step-refines}
+use Rattle.bench_output.specs.Printing.{answerLines, saidWith, printed}
+use Rattle.bench_lines.specs.Answering.{PrintsTheStandard}
+use Rattle.bench_output.proofs.Answers.{text-is}
 
 -- the buffer of an answer holds its payload
 abbrev Held : Answer → (message short : List ℕ) → Type 0
@@ -75,11 +77,11 @@ module _ (m r : List ℕ) where
 
 pub prints-the-standard : PrintsTheStandard
 unfolding mainHeardOf
-prints-the-standard o m r out e sound room short comes k l long =
-    let x : MainStepping = mainOnEvent o m r e in
-    let a : standard.Answer = deviceStep (deviceOf o m) e .answer in
-    let same : x .stepped .answer ≡ answerOf a = ap (λ (y : MainStepping). y .stepped .answer) (main-step-is o m r e sound room short comes) in
-    let says : said (x .stepped .answer) (x .message) (x .reply) ≡ answered a = main-step-refines o m r e sound room short comes .answer in
+prints-the-standard o e b out sound comes roomy k l long =
+    let x : MainStepping = mainOnEvent o e b in
+    let a : standard.Answer = deviceStep (deviceOf o (b .message)) e .answer in
+    let same : x .stepped .answer ≡ answerOf a = ap (λ (y : MainStepping). y .stepped .answer) (main-step-is o e b sound comes roomy) in
+    let says : said (x .stepped .answer) (x .message) (x .reply) ≡ answered a = main-step-refines o e b sound comes roomy .answer in
     let h : Held (x .stepped .answer) (x .message) (x .reply) =
     subst (λ (y : Answer). Held y (x .message) (x .reply)) (sym same) (held a (x .message) (x .reply) (subst (λ (y : Answer). said y (x .message) (x .reply) ≡ answered a) same says)) in
     text-is (x .stepped .answer) (x .message) (x .reply) out long (payloadOf (x .stepped .answer) (x .message) (x .reply)) refl (payload-short (x .message) (x .reply) (x .stepped .answer) h k l)

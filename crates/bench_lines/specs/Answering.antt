@@ -1,18 +1,25 @@
 -- 01-scope, Bench program: what a line prints, and what it leaves. Assumes nothing.
-use Prim.Native.Nat.{ℕ}
+use Prim.Native.Nat.{ℕ, _≤_}
+use mathlib.Core.Path.{_≡_}
 use mathlib.Core.List.{List, [], _∷_}
 use lib.ListN.{length}
 use lib.Dec.{ltb}
 use Rattle.ctaphid.specs.Choice.{refusing}
-use Rattle.ctaphid.specs.Limits.{packetSize}
+use Rattle.ctaphid.specs.Limits.{packetSize, largest}
 use Rattle.ctaphid.specs.Messages.{padded}
-use Rattle.hid.specs.Outer.{MainStepping, mainStepOf}
+use Rattle.ctaphid.specs.Transport.{Event}
+use Rattle.ctaphid.specs.Device.{deviceStep}
+use Rattle.answers.specs.Answers.{answered}
+use Rattle.hid.specs.Soundness.{Sound}
+use Rattle.hid.specs.Meaning.{deviceOf}
+use Rattle.hid.specs.MainHid.{MainStepping, mainStepOf}
 use Rattle.hid.specs.declared.MainHid.{MainHid}
-use Rattle.bench_lines.specs.Hex.{ascii}
-use Rattle.bench_lines.specs.Lines.{Reading, reads, unread, lineOf}
-use Rattle.bench_lines.specs.Printing.{Printing, printed, textOf, longest}
+use Rattle.runs.specs.Steps.{Buffers, Comes, Roomy, mainOnEvent}
+use Rattle.bench_input.specs.Hex.{ascii}
+use Rattle.bench_input.specs.Lines.{Reading, reads, unread, lineOf}
+use Rattle.bench_output.specs.Printing.{Printing, printed, answerLines, textOf, longest}
 use Rattle.bench_lines.specs.declared.Printed.{Printed}
-use Rattle.bench_lines.specs.declared.Text.the-variants.{Refused}
+use Rattle.bench_output.specs.declared.Text.the-variants.{Refused}
 
 -- all that a call leaves: what it returns, and the three buffers
 pub record Benched : Type 0 where
@@ -45,3 +52,11 @@ benchOf hid l m r out =
     refusing (λ number. benched (record { hid = hid; text = Refused number }) m r out)
     ((ltb (length out) longest, 2) ∷ [])
     (lineOn hid (lineOf l) m r out)
+
+-- a step of the device from a sound state prints what the standard's device answers. (That lent buffers keep their length is known of every call)
+abbrev pub PrintsTheStandard : Type 0
+PrintsTheStandard =
+    (o : MainHid) (e : Event) (b : Buffers) (out : List ℕ) → Sound (o .hid) (o .wink) → Comes (o .hid .last) e → Roomy (o .hid) b
+    → length (mainOnEvent o e b .message) ≤ largest → length (mainOnEvent o e b .reply) ≤ largest → longest ≤ length out
+    → textOf (mainOnEvent o e b .stepped .answer) (mainOnEvent o e b .message) (mainOnEvent o e b .reply) out
+    ≡ printed (answerLines (answered (deviceStep (deviceOf o (b .message)) e .answer))) out

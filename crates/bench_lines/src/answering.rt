@@ -1,17 +1,16 @@
 // A line of the bench, answered.
-use crate::Line;
 use crate::Printed;
-use crate::Text;
-use crate::Texts;
-use crate::printing::answer_text;
-use crate::printing::put;
-use crate::reading::read_line;
+use bench_input::Line;
+use bench_output::Text;
+use bench_output::Texts;
 use hid::MainHid;
+use packet::Limits;
+use packet::Refusal;
 ghost use mathlib.Core.Path.{_≡_};
 ghost use Prim.Native.Nat.{_≤_};
 ghost use lib.ListN.{length};
-ghost use Rattle.hid.specs.Outer.{mainStepOf};
-ghost use Rattle.bench_lines.specs.Printing.{printing, printed};
+ghost use Rattle.hid.specs.MainHid.{mainStepOf};
+ghost use Rattle.bench_output.specs.Printing.{printing, printed};
 ghost use Rattle.bench_lines.specs.Answering.{benched, benchOf, stepOn, unreadLine};
 
 // A line, without its newline, goes to the device, and out's front gets what is printed. A buffer shorter than the longest text is refused with 2, before
@@ -28,11 +27,11 @@ pub fn bench_line(
     if out.len() < Texts::LONGEST {
         return Printed {
             hid,
-            text: Text::Refused(2),
+            text: Text::Refused(Refusal::SHORT_BUFFER),
         };
     }
-    let mut packet = [0u8; 64];
-    match read_line(line, &mut packet) {
+    let mut packet = [0u8; Limits::PACKET_SIZE];
+    match bench_input::read_line(line, &mut packet) {
         Line::Input { time, disabled } => {
             step_on(hid, time, disabled, &packet, message, reply, out)
         }
@@ -55,7 +54,7 @@ fn step_on(
 {
     let stepped = hid.step(time, disabled, packet, message, reply);
     let answer = stepped.answer;
-    let text = answer_text(answer, message, reply, out);
+    let text = bench_output::answer_text(answer, message, reply, out);
     let next = stepped.hid;
     Printed { hid: next, text }
 }
@@ -65,7 +64,7 @@ fn unread(hid: MainHid, out: &mut [u8]) -> Printed
     requires { ⌜ 16899 ≤ length (now out) ⌝ }
     ensures { λ r. ⌜ (r .hid ≡ hid) × (printing (r .text) (now (out .exit)) ≡ printed unreadLine (now (out .entry))) ⌝ }
 {
-    let end = put(b"line?\n", out, 0);
+    let end = bytes::copy(b"line?\n", out);
     Printed {
         hid,
         text: Text::Bytes(end),

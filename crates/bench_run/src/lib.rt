@@ -1,8 +1,8 @@
 // The bench's loop: standard input to its end, line by line, and the device's answers on standard output.
-use bench_lines::Cut;
-use bench_lines::Line;
-use bench_lines::Text;
-use bench_lines::Texts;
+use bench_input::Cut;
+use bench_input::Line;
+use bench_output::Text;
+use bench_output::Texts;
 use hid::MainHid;
 use hid::MainReady;
 use libc::STDIN_FILENO;
@@ -32,8 +32,8 @@ pub fn run(setups: bool)
 // The turns say only that the loop ends.
 fn take_input(hid: MainHid, setups: bool) {
     let mut line = [0u8; 147];
-    let mut message = [0u8; 7609];
-    let mut reply = [0u8; 17];
+    let mut message = [0u8; Limits::LARGEST_PAYLOAD];
+    let mut reply = [0u8; Limits::SHORT_REPLY_SIZE];
     let mut out = io::large_buffer();
     let mut bench = Bench {
         hid,
@@ -124,7 +124,7 @@ fn next_line(
 ) -> Place {
     let at = place.at;
     let mut bench = place.bench;
-    match bench_lines::cut_line(line, bench.kept, input, at) {
+    match bench_input::cut_line(line, bench.kept, input, at) {
         Cut::Whole { kept, next } => {
             bench.kept = kept;
             let answered = take_line(bench, setups, line, message, reply, out);
@@ -244,11 +244,11 @@ fn is_set_up(line: &[u8]) -> bool {
 
 // The rest of the line has the form of a step: the time is the maximum, the flag U2F, and the packet's first bytes are the count of channels.
 fn set_up(bench: Bench, line: &[u8]) -> Bench {
-    let mut packet = [0u8; 64];
+    let mut packet = [0u8; Limits::PACKET_SIZE];
     if line.len() == 0 {
         return bench;
     }
-    match bench_lines::read_line(&line[1..], &mut packet) {
+    match bench_input::read_line(&line[1..], &mut packet) {
         Line::Input { time, disabled } => {
             let count = packet::be32(packet[0], packet[1], packet[2], packet[3]);
             fresh(bench, time as usize, disabled, count)

@@ -1,4 +1,5 @@
 // A packet's data added to a message that is being put together: for the device's receiver and for the host's.
+use packet::Refusal;
 ghost use mathlib.Core.Path.{_≡_};
 ghost use Prim.Native.Nat.{_+_, _≤_};
 ghost use lib.ListN.{length};
@@ -20,10 +21,10 @@ pub fn add_data(message: &mut [u8], taken: usize, len: usize, data: &[u8]) -> Ad
     ensures { λ r. ⌜ added r (now (message .exit)) ≡ addOf (now (message .entry)) taken len (now («data» .entry)) ⌝ }
 {
     if taken > len {
-        return Added::Refused(3);
+        return Added::Refused(Refusal::UNSOUND);
     }
     if len > message.len() {
-        return Added::Refused(3);
+        return Added::Refused(Refusal::UNSOUND);
     }
     let left = len - taken;
     if data.len() < left {

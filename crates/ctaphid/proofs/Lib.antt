@@ -1,9 +1,12 @@
 pub mod Tests
+pub mod Refusing
 pub mod Packets
 pub mod Commands
 pub mod Splitting
 pub mod Messages
 pub mod Transport
+pub mod Device
+pub mod Forgetting
 pub mod Invariant
 pub mod Steps
 pub mod Deliver

@@ -46,6 +46,7 @@ further-rows = record {
   errors = refl;
   capability-bits = refl;
   capability-bytes = refl;
+  refusal-numbers = refl;
   limits = refl;
   refuses = (refl, refl);
   past-the-end = refl;

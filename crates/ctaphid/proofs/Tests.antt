@@ -34,4 +34,10 @@ unfolding pick
 pick-known P true a b p q = p refl
 pick-known P false a b p q = q refl
 
+-- and of two that go by one test
+pub both-pick : {A B : Type 0} (P : A → B → Type 0) (test : Bool) (a b : A) (x y : B) → (test ≡ true → P a x) → (test ≡ false → P b y) → P (pick test a b) (pick test x y)
+unfolding pick
+both-pick P true a b x y p q = p refl
+both-pick P false a b x y p q = q refl
+
 pub ruleset tests = (lt-ltb, le-ltb, le-leb, lt-leb, eq-eqb, ne-eqb, yes-pick, no-pick)

@@ -1,7 +1,7 @@
 -- The device over its transport: wink, and the hand-over of MSG and CBOR (§11.2.9.2.1). Check 8 of the scope. It sends no KEEPALIVE (DIFFERENCES 25).
 -- Assumes nothing.
 use Prim.Native.Nat.{ℕ, _+_}
-use mathlib.Core.List.{List, [], _∷_}
+use mathlib.Core.List.{List, []}
 use mathlib.Core.Bool.{Bool}
 use lib.ListN.{length}
 use lib.Dec.{ltb, eqb}
@@ -9,7 +9,7 @@ use Rattle.ctaphid.specs.Choice.{pick}
 use Rattle.ctaphid.specs.Commands.{Command, MSG, WINK, is}
 use Rattle.ctaphid.specs.Errors.{InvalidCmd, InvalidLen}
 use Rattle.ctaphid.specs.Limits.{winkTime}
-use Rattle.ctaphid.specs.Transport.{Settings, Transport, Event, Answer, nothing, reply, request, Next, next, error, fresh, step}
+use Rattle.ctaphid.specs.Transport.{Settings, Transport, Event, Answer, nothing, reply, request, Next, next, error, fresh, step, answersOf}
 
 -- the transport, and the time from which on no wink runs
 pub record Device : Type 0 where
@@ -57,5 +57,4 @@ isWinking o time = ltb time (o .wink)
 
 -- the answers of a run of steps
 abbrev pub deviceRun : Device → List Event → List Answer
-deviceRun o [] = []
-deviceRun o (e ∷ rest) = deviceStep o e .answer ∷ deviceRun (deviceStep o e .state) rest
+deviceRun o es = answersOf deviceStep o es

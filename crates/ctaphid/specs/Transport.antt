@@ -174,6 +174,9 @@ abbrev pub step : Transport → Event → Next Transport
 step d e = hear d (e .time) (e .disabled) (read (e .packet))
 
 -- the answers of a run of steps
+abbrev pub answersOf : {S : Type 0} → (S → Event → Next S) → S → List Event → List Answer
+answersOf f s [] = []
+answersOf f s (e ∷ rest) = f s e .answer ∷ answersOf f (f s e .state) rest
+
 abbrev pub run : Transport → List Event → List Answer
-run d [] = []
-run d (e ∷ rest) = step d e .answer ∷ run (step d e .state) rest
+run d es = answersOf step d es

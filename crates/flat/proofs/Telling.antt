@@ -14,14 +14,14 @@ use Rattle.send.specs.Sending.{Left, left}
 use Rattle.send.specs.declared.Count.{Count}
 use Rattle.send.specs.declared.Count.the-variants as count
 use Rattle.send.specs.declared.Written.{Written}
-use Rattle.hid.specs.Serving.{Stepping, stepping}
-use Rattle.hid.specs.Outer.{MainStepping, mainStepping}
+use Rattle.hid.specs.Hearing.{Stepping, stepping}
+use Rattle.hid.specs.MainHid.{MainStepping, mainStepping}
 use Rattle.hid.specs.declared.CtapHid.{CtapHid}
 use Rattle.hid.specs.declared.MainHid.{MainHid}
 use Rattle.hid.specs.declared.Stepped.{Stepped}
 use Rattle.hid.specs.declared.MainStepped.{MainStepped}
-use Rattle.hid.specs.declared.Answer.{Answer}
-use Rattle.hid.specs.declared.Answer.the-variants.{Refused, Nothing, Message, Echo, Reply}
+use Rattle.answers.specs.declared.Answer.{Answer}
+use Rattle.answers.specs.declared.Answer.the-variants.{Refused, Nothing, Message, Echo, Reply}
 use Rattle.hid.specs.declared.Running.{Running}
 use Rattle.hid.specs.declared.Ready.{Ready}
 use Rattle.hid.specs.declared.Ready.the-variants as ready

@@ -15,12 +15,12 @@ use Rattle.send.specs.declared.Count.{Count}
 use Rattle.send.specs.declared.Count.the-variants as count
 use Rattle.send.specs.declared.Written.{Written}
 use Rattle.send.specs.declared.Written.the-variants as writing
-use Rattle.hid.specs.Serving.{Stepping}
-use Rattle.hid.specs.Outer.{MainStepping}
+use Rattle.hid.specs.Hearing.{Stepping}
+use Rattle.hid.specs.MainHid.{MainStepping}
 use Rattle.hid.specs.declared.CtapHid.{CtapHid}
 use Rattle.hid.specs.declared.MainHid.{MainHid}
-use Rattle.hid.specs.declared.Answer.{Answer}
-use Rattle.hid.specs.declared.Answer.the-variants.{Refused, Nothing, Message, Echo, Reply}
+use Rattle.answers.specs.declared.Answer.{Answer}
+use Rattle.answers.specs.declared.Answer.the-variants.{Refused, Nothing, Message, Echo, Reply}
 use Rattle.hid.specs.declared.Running.{Running}
 use Rattle.hid.specs.declared.Running.the-variants as running
 use Rattle.hid.specs.declared.Ready.{Ready}

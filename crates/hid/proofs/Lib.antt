@@ -1,12 +1,8 @@
-pub mod Receiving
-pub mod Serving
 pub mod Sound
-pub mod Hearing
+pub mod Served
+pub mod Heard
 pub mod Refusing
 pub mod Shortening
 pub mod Finishing
-pub mod Payloads
-pub mod Refines
 pub mod Unique
 pub mod UniqueMain
-pub mod Carrying

@@ -1,100 +1,139 @@
--- What the short way of a continuation packet meets: it is the long way of one that is due. Assumes nothing.
-use Prim.Native.Nat.{ℕ, _+_, _≤_}
+-- The short way comes to what the long way comes to. Assumes nothing.
+use Prim.Native.Nat.{ℕ, _+_, _≤_, _<_}
 use native.Mathlib.Omega.{arith}
 use mathlib.Core.Path.{_≡_, refl, sym, ap, subst, _∙_}
 use mathlib.Core.List.{List, []}
 use mathlib.Core.Bool.{Bool, true, false}
 use borrow.Author.Tests.{eq-eqb}
-use lib.ListN.{length, replicate}
-use Rattle.ctaphid.specs.Packets.{Packet, Formed, read}
-use Rattle.ctaphid.specs.Receiver.{channelOf, collect, receive}
-use Rattle.ctaphid.specs.Transport.{isValid}
-use Rattle.packet.specs.Reading.{heard}
+use lib.ListN.{length, drop}
+use Rattle.ctaphid.specs.Packets.{continuation, Bytes, read}
+use Rattle.ctaphid.specs.Receiver.{collect, receive}
+use Rattle.ctaphid.specs.Transport.{isValid, isShut}
+use Rattle.packet.specs.Reading.{readingOf, heard, said, fieldOf}
+use Rattle.packet.proofs.Packets.{packet-size, packet-read}
+use Rattle.packet.specs.declared.Reading.{Reading}
+use Rattle.packet.specs.declared.Reading.the-variants as reading
 use Rattle.packet.specs.declared.ProcessedPacket.{ProcessedPacket}
 use Rattle.packet.specs.declared.ProcessedPacket.the-variants.{ContinuationPacket}
-use Rattle.hid.specs.declared.MessageAssembler.{MessageAssembler}
+use Rattle.receive.specs.declared.MessageAssembler.{MessageAssembler}
 use Rattle.hid.specs.declared.CtapHid.{CtapHid}
-use Rattle.hid.specs.declared.Answer.the-variants.{Nothing}
+use Rattle.answers.specs.declared.Answer.the-variants.{Nothing}
 use Rattle.hid.specs.declared.Stepped.{Stepped}
-use Rattle.hid.specs.declared.receive.Received.the-variants as received
-use Rattle.hid.specs.declared.receive.Assembled.{Assembled}
-use Rattle.hid.specs.declared.shortcut.Shortcut.{Shortcut}
-use Rattle.hid.specs.declared.shortcut.Shortcut.the-variants.{Taken, Open}
-use Rattle.hid.specs.Meaning.{transactionOf, receiverOf}
-use Rattle.hid.specs.Receiving.{assembling, assembledOf, Adds}
-use Rattle.hid.specs.Serving.{having, arriving, Hears, Admits, Stepping, stepping, heardOf}
-use Rattle.hid.specs.Shortcut.{Shortens, AdmitsAll, HearsAll, Due, TellsDue}
-use Rattle.hid.proofs.Receiving.{yes-turn, busy-later, receives-busy}
-use Rattle.hid.proofs.Hearing.{receives-of, serves-nothing, hears-served, hears-valid}
-use Rattle.hid.proofs.Refusing.{heard-packet}
+use Rattle.receive.specs.declared.Received.the-variants as received
+use Rattle.receive.specs.declared.Assembled.{Assembled}
+use Rattle.receive.specs.Meaning.{transactionOf, receiverOf}
+use Rattle.receive.specs.Assembler.{assembling, assembledOf, Adds}
+use Rattle.receive.proofs.Receiving.{yes-turn, own-later, busy-own, receives-busy}
+use Rattle.hid.specs.State.{having}
+use Rattle.hid.specs.Hearing.{Admits, Hears, stepping, heardOf}
+use Rattle.hid.specs.Refusals.{refusalOf}
+use Rattle.hid.specs.Transport.{admittedOf}
+use Rattle.hid.specs.Shortcut.{Open, Next, Due, TellsNext, TellsDue, GoesOn}
+use Rattle.hid.proofs.Heard.{same-valid, adds-of, parsed-is, serves, hears-served, hears-packet, heard-packet}
+use Rattle.hid.proofs.Refusing.{step-admitted, step-heard}
 
-pub due-told : {b : Bool} (s : CtapHid) (disabled : Bool) (p : ProcessedPacket) (c k : ℕ) → TellsDue b s disabled p c k → b ≡ true → Due s disabled p c k
-due-told s disabled p c k h e = subst (λ (x : Bool). TellsDue x s disabled p c k) e h
+-- ---- whether it is such a packet
+module _ (s : CtapHid) (time : ℕ) (disabled : Bool) (p : ProcessedPacket) {cid seq : ℕ} (is : p ≡ ContinuationPacket cid seq)
+    (live : time < s .assembler .deadline) (own : cid ≡ s .assembler .cid) (number : seq ≡ s .assembler .seq)
+    (q : Bool) (test : q ≡ isShut (record { holder = s .locked; until = s .lock }) time disabled cid) (off : q ≡ false) where
+  pub next-told : (b : Bool) → b ≡ isValid (s .allocated) (continuation cid seq []) → TellsNext b s time disabled p
+  next-told false e = tt
+  next-told true e = (
+    record { live = live; own = is ∙ (ap (λ (c : ℕ). ContinuationPacket c seq) own ∙ ap (ContinuationPacket (s .assembler .cid)) number); valid = ap (λ (x : ProcessedPacket). isValid (s .allocated) (heard x [])) is ∙ sym e },
+    ap (isShut (record { holder = s .locked; until = s .lock }) time disabled) (sym own) ∙ (sym test ∙ off),
+  )
 
--- what does not speak of the short buffer holds with one of 17 zeros
-pub hears-some : (s : CtapHid) (p : Packet) (m : List ℕ) → HearsAll s p m → Hears s p m (replicate 17 0)
-hears-some s p m all = all (replicate 17 0) (omega arith)
+module _ (s : CtapHid) (time : ℕ) (disabled : Bool) (p : List ℕ) (more : s .assembler .taken + 59 < s .assembler .len)
+    (x : Reading) (e : said x (fieldOf (readingOf p)) ≡ readingOf p) {processed : ProcessedPacket} (is : x ≡ reading.Packet processed) where
+  field-is : heard processed (fieldOf (readingOf p)) ≡ read p
+  field-is = packet-read p (packet-size p x e is) x e (fieldOf (readingOf p)) is refl
 
-pub admits-some : (s : CtapHid) (time : ℕ) (p m : List ℕ) → AdmitsAll s time p m → Admits s time p m (replicate 17 0)
-admits-some s time p m all = all (replicate 17 0) (omega arith)
+  pub due-told : (b : Bool) → TellsNext b s time disabled processed → TellsDue b s time disabled p
+  due-told false h = tt
+  due-told true h = (
+    record {
+      more = more;
+      live = h .0 .live;
+      own = ap (λ (q : ProcessedPacket). heard q (fieldOf (readingOf p))) (sym (h .0 .own)) ∙ field-is;
+      valid = ap (isValid (s .allocated)) (sym field-is) ∙ (same-valid (s .allocated) processed (fieldOf (readingOf p)) [] ∙ h .0 .valid);
+    },
+    h .1,
+  )
 
-pub admits-all : (s : CtapHid) (time : ℕ) (p m r : List ℕ) → Admits s time p m r → AdmitsAll s time p m
-admits-all s time p m r h r′ short = record { size = h .size; room = h .room; short = short; sound = h .sound; early = h .early; later = h .later }
+-- what was told
+module _ {b : Bool} (s : CtapHid) (time : ℕ) (disabled : Bool) (p : List ℕ) (h : TellsDue b s time disabled p) (e : b ≡ true) where
+  told : Due s time p × Open s time disabled
+  told = subst (λ (x : Bool). TellsDue x s time disabled p) e h
 
-pub later-formed : {cid seq : ℕ} (p : ProcessedPacket) (field : List ℕ) → p ≡ ContinuationPacket cid seq → Formed (heard p field) → length field ≡ 59
-later-formed {cid} {seq} p field e h =
-    let f : Formed (heard (ContinuationPacket cid seq) field) = subst (λ (q : ProcessedPacket). Formed (heard q field)) e h in
-    f .2
+  pub is-due : Due s time p
+  is-due = told .0
 
--- the transaction, renewed by a packet with number k
-abbrev pub renewed : CtapHid → (k : ℕ) → MessageAssembler
-renewed s k =
-    record { deadline = s .last + 100; cid = s .assembler .cid; len = s .assembler .len; taken = s .assembler .taken; cmd = s .assembler .cmd; seq = k + 1 }
+  is-open : Open s time disabled
+  is-open = told .1
 
-pub renewed-adds : (s : CtapHid) (p : Packet) (m : List ℕ) (k : ℕ) → HearsAll s p m → (s .assembler .len ≡ 0 → ⊥) → Adds (renewed s k) m
-renewed-adds s p m k all begun =
-    let adds = receives-of s p m (replicate 17 0) (hears-some s p m all) .adds begun in
-    record { taken = adds .taken; room = adds .room; command = adds .command }
+-- ---- such a packet
+abbrev pub renewed : CtapHid → (time : ℕ) → MessageAssembler
+renewed s time =
+    record { deadline = time + 100; cid = s .assembler .cid; len = s .assembler .len; taken = s .assembler .taken; cmd = s .assembler .cmd; seq = s .assembler .seq + 1 }
 
-module _ (s : CtapHid) (disabled : Bool) (p : ProcessedPacket) (field m : List ℕ) (all : HearsAll s (heard p field) m) (met : s ≡ arriving s (s .last))
-    {cid seq : ℕ} (is : p ≡ ContinuationPacket cid seq) (due : Due s disabled (ContinuationPacket cid seq) cid seq)
-    (x : MessageAssembler) (m1 : List ℕ) (e : assembling (record { assembler = x; received = received.Nothing }) m1 ≡ assembledOf (collect (transactionOf (renewed s seq) m) field) m) where
-  abbrev o : Assembled
-  o = record { assembler = x; received = received.Nothing }
+module _ (s : CtapHid) (time : ℕ) (p m : List ℕ) (asks : Admits s time p m) (due : Due s time p) where
+  abbrev a : MessageAssembler
+  a = s .assembler
 
-  received-is : assembling o m1 ≡ assembledOf (receive (s .max) (s .last) (receiverOf (s .assembler) m) (heard p field)) m
-  received-is =
-      let e′ : assembling o m1 ≡ assembledOf (collect (transactionOf (renewed s (s .assembler .seq)) m) field) m =
-      e ∙ ap (λ (k : ℕ). assembledOf (collect (transactionOf (renewed s k) m) field) m) (due .number) in
-      receives-busy (s .assembler) (s .max) (s .last) (heard p field) m (assembling o m1) (due .begun) (due .live)
-      (busy-later (s .max) (s .last) p field m (assembling o m1) (transactionOf (s .assembler) m) is
-      (yes-turn _ (assembling o m1) _ _ m (eq-eqb cid (s .assembler .cid) (due .own))
-      (yes-turn _ (assembling o m1) _ _ m (eq-eqb seq (s .assembler .seq) (due .number)) e′)))
+  begun : a .len ≡ 0 → ⊥
+  begun z = omega (arith, due .more)
 
-  pub goes-on-short : (nx : CtapHid) → nx ≡ having s (s .last) x → Shortens (Taken nx) s (s .last) disabled (heard p field) m m1
-  goes-on-short nx k r short =
-      let valid : isValid (s .allocated) (heard p field) ≡ true = hears-valid (s .allocated) p field {b = true} (sym (ap (λ (q : ProcessedPacket). isValid (s .allocated) (heard q [])) is ∙ due .valid)) refl in
-      let own : cid ≡ channelOf (heard p []) = sym (ap (λ (q : ProcessedPacket). channelOf (heard q [])) is) in
-      let y : Stepped = record { hid = nx; answer = Nothing } in
-      hears-served s disabled p field m r (all r short) met valid {c = cid} own {q = false} y m1 r (sym (due .unshut)) refl
-      (serves-nothing s p field m r o m1 nx received-is k y refl refl)
+  -- its number is small
+  pub number-low : a .seq ≤ 128
+  number-low =
+      let t = asks .sound .transaction begun in
+      omega (arith, t .lengths .below, t .lengths .within, asks .sound .maximum)
 
--- the state as it came, at the packet's time
-pub shortens-packet : (w : Shortcut) (s : CtapHid) (time : ℕ) (disabled : Bool) (p m m1 : List ℕ) (nx : CtapHid) → nx ≡ arriving s time → AdmitsAll s time p m → (q : Packet) → q ≡ read p
-    → Shortens w nx (nx .last) disabled q m m1 → Shortens w s time disabled (read p) m m1
-shortens-packet (Taken y) s time disabled p m m1 nx is asks q e h =
-    λ r short. heard-packet s time p m r nx is (asks r short) q e disabled (stepping (record { hid = y; answer = Nothing }) m1 r) (h r short)
-shortens-packet Open s time disabled p m m1 nx is asks q e h = h
+  pub renewed-adds : Adds (renewed s time) m
+  renewed-adds =
+      let adds = adds-of s m (asks .sound) (asks .room) begun in
+      record { taken = adds .taken; room = adds .room; command = adds .command }
 
--- what follows where it is taken, and where it is not
-module _ (w : Shortcut) (s : CtapHid) (time : ℕ) (disabled : Bool) (p : Packet) (m m1 r : List ℕ) (h : Shortens w s time disabled p m m1) where
-  pub shortened : {y : CtapHid} (x : Stepped) → w ≡ Taken y → x ≡ record { hid = y; answer = Nothing } → 17 ≤ length r → stepping x m1 r ≡ heardOf s time disabled p m r
-  shortened {y} x e k short =
-      let taken : Shortens (Taken y) s time disabled p m m1 = subst (λ (v : Shortcut). Shortens v s time disabled p m m1) e h in
-      ap (λ (z : Stepped). stepping z m1 r) k ∙ taken r short
+  module _ (bytes : Bytes p) (field : List ℕ) (f : field ≡ fieldOf (readingOf p)) where
+    abbrev q : ProcessedPacket
+    q = ContinuationPacket (a .cid) (a .seq)
 
-  pub as-before : w ≡ Open → m1 ≡ m
-  as-before e = subst (λ (v : Shortcut). Shortens v s time disabled p m m1) e h
+    is-read : heard q field ≡ read p
+    is-read = ap (heard q) f ∙ due .own
 
-  pub not-shortened : (x : Stepping) → w ≡ Open → x ≡ heardOf s time disabled p m1 r → x ≡ heardOf s time disabled p m r
-  not-shortened x e k = k ∙ ap (λ (l : List ℕ). heardOf s time disabled p l r) (as-before e)
+    hears : Hears s time (heard q field) m
+    hears = hears-packet s time p m (heard q field) is-read asks bytes
+
+    pub block : length field ≡ 59
+    block = hears .formed .2
+
+    module _ (x : MessageAssembler) (m1 : List ℕ) (e : assembling (record { assembler = x; received = received.Nothing }) m1 ≡ assembledOf (collect (transactionOf (renewed s time) m) field) m) where
+      abbrev o : Assembled
+      o = record { assembler = x; received = received.Nothing }
+
+      received-is : assembling o m1 ≡ assembledOf (receive (s .max) time (receiverOf a m) (heard q field)) m
+      received-is =
+          receives-busy a (s .max) time (heard q field) m (assembling o m1) begun (due .live)
+          (busy-own (s .max) time q field m (assembling o m1) (transactionOf a m) {c = a .cid} refl refl
+          (own-later (s .max) time q field m (assembling o m1) (transactionOf a m) refl
+          (yes-turn _ (assembling o m1) _ _ m (eq-eqb (a .seq) (a .seq) refl) e)))
+
+      pub goes-on : (nx : CtapHid) → nx ≡ having s time x → GoesOn nx s time p m m1
+      goes-on nx k disabled r unshut short =
+          let y : Stepped = record { hid = nx; answer = Nothing } in
+          let valid : isValid (s .allocated) (heard q field) ≡ true = ap (isValid (s .allocated)) is-read ∙ due .valid in
+          heard-packet s time p m (heard q field) is-read disabled r (stepping y m1 r)
+          (hears-served s time disabled q field m r hears short valid {c = a .cid} refl {q = false} y m1 r (sym unshut) refl
+          (serves s time q field m r o m1 nx hears short valid (received-is ∙ sym (parsed-is s time (heard q field) m hears)) k {c = a .cid} y r refl refl))
+
+-- ---- a step by the short way
+module _ (s : CtapHid) (wink time : ℕ) (disabled : Bool) (p m r : List ℕ) {n : ℕ} (e : n ≡ refusalOf s wink time (length p) (length m) (length r)) (none : n ≡ 0)
+    {b : Bool} (h : TellsDue b s time disabled p) (yes : b ≡ true) where
+  pub short-asks : Admits s time p m × Due s time p
+  short-asks = (step-admitted s wink time disabled p m r e none .0, is-due s time disabled p h yes)
+
+  pub short-heard : (nx : CtapHid) (m1 : List ℕ) → GoesOn nx s time p m m1 → stepping (record { hid = nx; answer = Nothing }) m1 r ≡ heardOf s time disabled (read p) m r
+  short-heard nx m1 goes = goes disabled r (is-open s time disabled p h yes) (step-admitted s wink time disabled p m r e none .1)
+
+  pub short-step : (nx : CtapHid) (m1 : List ℕ) → GoesOn nx s time p m m1 → (x : Stepped) → x ≡ record { hid = nx; answer = Nothing } → stepping x m1 r ≡ admittedOf s wink time disabled p m r
+  short-step nx m1 goes x is = step-heard s wink time disabled p m r e none (stepping x m1 r) (ap (λ (y : Stepped). stepping y m1 r) is ∙ short-heard nx m1 goes)

@@ -10,11 +10,11 @@ use lib.Dec.{leb, ltb, eqb}
 use Rattle.ctaphid.specs.Choice.{pick}
 use Rattle.ctaphid.specs.Transport.{isAllocated}
 use Rattle.ctaphid.proofs.Tests.{pick-true, pick-known}
-use Rattle.collect.specs.Standing.{isStanding}
-use Rattle.collect.proofs.Standing.{stands-is, is-standing}
-use Rattle.hid.specs.declared.MessageAssembler.{MessageAssembler}
+use Rattle.receive.specs.declared.MessageAssembler.{MessageAssembler}
+use Rattle.receive.specs.Assembler as receive
+use Rattle.receive.proofs.Receiving.{sound-is as receive-sound-is, is-sound as receive-is-sound}
 use Rattle.hid.specs.declared.CtapHid.{CtapHid}
-use Rattle.hid.specs.Soundness.{Allocated, Transacts, Sound, isOnChannel, transacts, isAtRest, isHeld, isTimely, isSound}
+use Rattle.hid.specs.Soundness.{Allocated, Placed, Sound, isOnChannel, isPlaced, transacts, isHeld, isTimely, isSound}
 
 -- a call whose answer was tested
 module _ (n c : ℕ) (b : Bool) (e : b ≡ isAllocated n c) where
@@ -24,12 +24,12 @@ module _ (n c : ℕ) (b : Bool) (e : b ≡ isAllocated n c) where
   pub allocated-no : b ≡ false → isAllocated n c ≡ false
   allocated-no t = sym e ∙ t
 
-module _ (most len taken seq : ℕ) (b : Bool) (e : b ≡ isStanding most len taken seq) where
-  pub standing-yes : b ≡ true → isStanding most len taken seq ≡ true
-  standing-yes t = sym e ∙ t
+module _ (a : MessageAssembler) (max : ℕ) (b : Bool) (e : b ≡ receive.isSound a max) where
+  pub assembled-yes : b ≡ true → receive.isSound a max ≡ true
+  assembled-yes t = sym e ∙ t
 
-  pub standing-no : b ≡ false → isStanding most len taken seq ≡ false
-  standing-no t = sym e ∙ t
+  pub assembled-no : b ≡ false → receive.isSound a max ≡ false
+  assembled-no t = sym e ∙ t
 
 module _ (s : CtapHid) (wink : ℕ) (b : Bool) (e : b ≡ isTimely s wink) where
   pub timely-yes : b ≡ true → isTimely s wink ≡ true
@@ -50,23 +50,12 @@ on-channel-is n c cmd =
     (λ e h. inl (allocated-is n c e))
     (λ e h. let p = pick-true (eqb c 0xffff_ffff) (eqb cmd 6) h in inr (eqb-true c 0xffff_ffff (p .0), eqb-true cmd 6 (p .1)))
 
-transacts-is : (max n : ℕ) (a : MessageAssembler) → transacts max n a ≡ true → Transacts max n a
-unfolding transacts
-transacts-is max n a e =
-    let p₁ = pick-true (leb (a .cmd) 127) _ e in
-    let p₂ = pick-true (isStanding max (a .len) (a .taken) (a .seq)) _ (p₁ .1) in
-    record {
-      command = leb-true (a .cmd) 127 (p₁ .0);
-      lengths = stands-is max (a .len) (a .taken) (a .seq) (p₂ .0);
-      channel = on-channel-is n (a .cid) (a .cmd) (p₂ .1);
-    }
-
-at-rest-is : (max n : ℕ) (a : MessageAssembler) → isAtRest max n a ≡ true → (a .len ≡ 0 → ⊥) → Transacts max n a
-unfolding isAtRest
-at-rest-is max n a =
-    pick-known (λ (b : Bool). b ≡ true → (a .len ≡ 0 → ⊥) → Transacts max n a) (eqb (a .len) 0) _ _
+placed-is : (n : ℕ) (a : MessageAssembler) → isPlaced n a ≡ true → (a .len ≡ 0 → ⊥) → Placed n a
+unfolding isPlaced
+placed-is n a =
+    pick-known (λ (b : Bool). b ≡ true → (a .len ≡ 0 → ⊥) → Placed n a) (eqb (a .len) 0) _ _
     (λ e h z. absurd (z (eqb-true (a .len) 0 e)))
-    (λ e h z. transacts-is max n a h)
+    (λ e h z. on-channel-is n (a .cid) (a .cmd) h)
 
 held-is : (s : CtapHid) → isHeld s ≡ true → s .last < s .lock → Allocated (s .allocated) (s .locked)
 unfolding isHeld
@@ -76,12 +65,13 @@ held-is s =
     (λ e h l. absurd (omega (arith, ltb-false (s .last) (s .lock) e)))
 
 pub sound-is : (s : CtapHid) (wink : ℕ) → isSound s wink ≡ true → Sound s wink
-unfolding isSound isTimely
+unfolding isSound isTimely transacts
 sound-is s wink e =
     let p₁ = pick-true (leb (s .max) 7609) _ e in
     let p₂ = pick-true (leb (s .allocated) 0xffff_fffe) _ (p₁ .1) in
     let p₃ = pick-true (leb (s .last) 0xffff_ffff_ffff) _ (p₂ .1) in
     let p₄ = pick-true (isTimely s wink) _ (p₃ .1) in
+    let p₅ = pick-true (receive.isSound (s .assembler) (s .max)) _ (p₄ .1) in
     let t₁ = pick-true (leb (s .assembler .deadline) (s .last + 100)) _ (p₄ .0) in
     let t₂ = pick-true (leb (s .lock) (s .last + 10000)) _ (t₁ .1) in
     let t₃ = pick-true (leb wink (s .last + 5000)) _ (t₂ .1) in
@@ -93,7 +83,8 @@ sound-is s wink e =
       lock = leb-true (s .lock) (s .last + 10000) (t₂ .0);
       wink = leb-true wink (s .last + 5000) (t₃ .0);
       holder = held-is s (t₃ .1);
-      transaction = at-rest-is (s .max) (s .allocated) (s .assembler) (p₄ .1);
+      transaction = λ z. receive-sound-is (s .assembler) (s .max) z (p₅ .0);
+      channel = placed-is (s .allocated) (s .assembler) (p₅ .1);
     }
 
 -- ---- and back
@@ -110,18 +101,13 @@ is-on-channel n c cmd (inr b) = go (isAllocated n c)
     go true = refl
     go false = simp (eq-eqb _ _ (b .0), eq-eqb _ _ (b .1))
 
-is-transacting : (max n : ℕ) (a : MessageAssembler) → Transacts max n a → transacts max n a ≡ true
-unfolding transacts pick
-is-transacting max n a t =
-    simp (le-leb _ _ (t .command), is-standing max (a .len) (a .taken) (a .seq) (t .lengths)) (is-on-channel n (a .cid) (a .cmd) (t .channel))
-
-is-at-rest : (max n : ℕ) (a : MessageAssembler) → ((a .len ≡ 0 → ⊥) → Transacts max n a) → isAtRest max n a ≡ true
-unfolding isAtRest pick
-is-at-rest max n a t = by-len (ℕ-discrete (a .len) 0)
+is-placed : (n : ℕ) (a : MessageAssembler) → ((a .len ≡ 0 → ⊥) → Placed n a) → isPlaced n a ≡ true
+unfolding isPlaced pick
+is-placed n a t = by-len (ℕ-discrete (a .len) 0)
   where
-    by-len : Dec (a .len ≡ 0) → isAtRest max n a ≡ true
+    by-len : Dec (a .len ≡ 0) → isPlaced n a ≡ true
     by-len (yes z) = simp (eq-eqb _ _ z)
-    by-len (no z) = simp (ne-eqb _ _ z) (is-transacting max n a (t z))
+    by-len (no z) = simp (ne-eqb _ _ z) (is-on-channel n (a .cid) (a .cmd) (t z))
 
 is-held : (s : CtapHid) → (s .last < s .lock → Allocated (s .allocated) (s .locked)) → isHeld s ≡ true
 unfolding isHeld pick
@@ -132,7 +118,7 @@ is-held s a = by-time (decLt (s .last) (s .lock))
     by-time (no l) = simp (le-ltb (s .last) (s .lock) (omega arith))
 
 pub is-sound : (s : CtapHid) (wink : ℕ) → Sound s wink → isSound s wink ≡ true
-unfolding isSound isTimely pick
+unfolding isSound isTimely transacts pick
 is-sound s wink t =
     simp (le-leb (s .max) 7609 (t .maximum), le-leb _ _ (t .count), le-leb _ _ (t .last), le-leb _ _ (t .deadline), le-leb _ _ (t .lock), le-leb _ _ (t .wink), is-held s (t .holder))
-    (is-at-rest (s .max) (s .allocated) (s .assembler) (t .transaction))
+    (simp (receive-is-sound (s .assembler) (s .max) (t .transaction)) (is-placed (s .allocated) (s .assembler) (t .channel)))

@@ -1,7 +1,7 @@
 -- Each public contract of the device leaves one outcome: the answer, and the state and both buffers at exit where they are lent. Assumes nothing.
 use mathlib.Core.Path.{refl, sym, ap, _∙_}
 use Rattle.outcome.specs.One.{OneOutcome, from-facts}
-use Rattle.hid.specs.Outer.{MainStepping}
+use Rattle.hid.specs.MainHid.{MainStepping}
 use Rattle.hid.proofs.MainHid.new as new
 use Rattle.hid.proofs.MainHid.step as step
 use Rattle.hid.proofs.MainHid.is_winking_at as is-winking-at

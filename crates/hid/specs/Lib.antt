@@ -1,9 +1,11 @@
 pub mod Meaning
 pub mod Soundness
-pub mod Receiving
-pub mod Serving
+pub mod SetUp
+pub mod State
+pub mod Commands
+pub mod Hearing
 pub mod Shortcut
-pub mod Asking
-pub mod Outer
-pub mod Refining
-pub mod Carrying
+pub mod Refusals
+pub mod Transport
+pub mod MainHid
+pub mod Questions

@@ -7,18 +7,16 @@ use mathlib.Core.Logic.{_⊎_}
 use lib.Dec.{ltb, leb, eqb}
 use Rattle.ctaphid.specs.Choice.{pick, every}
 use Rattle.ctaphid.specs.Transport.{isAllocated}
-use Rattle.collect.specs.Standing.{Stands, isStanding}
-use Rattle.hid.specs.declared.MessageAssembler.{MessageAssembler}
+use Rattle.receive.specs.declared.MessageAssembler.{MessageAssembler}
+use Rattle.receive.specs.Assembler as receive
 use Rattle.hid.specs.declared.CtapHid.{CtapHid}
 
 abbrev pub Allocated : (allocated channel : ℕ) → Type 0
 Allocated allocated c = (1 ≤ c) × (c ≤ allocated)
 
--- with a transaction. `Stands`: 57 < declared length ≤ maximum, 57 + 59s below it and equal to the bytes taken
-pub record Transacts (max allocated : ℕ) (a : MessageAssembler) : Type 0 where
-  pub command : a .cmd ≤ 127
-  pub lengths : Stands max (a .len) (a .taken) (a .seq)
-  pub channel : Allocated allocated (a .cid) ⊎ ((a .cid ≡ 0xffff_ffff) × (a .cmd ≡ 6))
+-- a transaction's channel
+abbrev pub Placed : (allocated : ℕ) → MessageAssembler → Type 0
+Placed allocated a = Allocated allocated (a .cid) ⊎ ((a .cid ≡ 0xffff_ffff) × (a .cmd ≡ 6))
 
 -- a transport's state, and until when a wink runs
 pub record Sound (s : CtapHid) (until : ℕ) : Type 0 where
@@ -29,19 +27,19 @@ pub record Sound (s : CtapHid) (until : ℕ) : Type 0 where
   pub lock : s .lock ≤ s .last + 10000
   pub wink : until ≤ s .last + 5000
   pub holder : s .last < s .lock → Allocated (s .allocated) (s .locked)
-  pub transaction : (s .assembler .len ≡ 0 → ⊥) → Transacts (s .max) (s .allocated) (s .assembler)
+  pub transaction : (s .assembler .len ≡ 0 → ⊥) → receive.Sound (s .assembler) (s .max)
+  pub channel : (s .assembler .len ≡ 0 → ⊥) → Placed (s .allocated) (s .assembler)
 
 -- ---- the same as a test
 
 unfoldable pub isOnChannel : (allocated channel command : ℕ) → Bool
 isOnChannel allocated c cmd = pick (isAllocated allocated c) true (pick (eqb c 0xffff_ffff) (eqb cmd 6) false)
 
-unfoldable pub transacts : (max allocated : ℕ) → MessageAssembler → Bool
-transacts max allocated a =
-    every (leb (a .cmd) 127 ∷ isStanding max (a .len) (a .taken) (a .seq) ∷ isOnChannel allocated (a .cid) (a .cmd) ∷ [])
+unfoldable pub isPlaced : (allocated : ℕ) → MessageAssembler → Bool
+isPlaced allocated a = pick (eqb (a .len) 0) true (isOnChannel allocated (a .cid) (a .cmd))
 
-unfoldable pub isAtRest : (max allocated : ℕ) → MessageAssembler → Bool
-isAtRest max allocated a = pick (eqb (a .len) 0) true (transacts max allocated a)
+unfoldable pub transacts : CtapHid → Bool
+transacts s = every (receive.isSound (s .assembler) (s .max) ∷ isPlaced (s .allocated) (s .assembler) ∷ [])
 
 unfoldable pub isHeld : CtapHid → Bool
 isHeld s = pick (ltb (s .last) (s .lock)) (isAllocated (s .allocated) (s .locked)) true
@@ -60,5 +58,5 @@ isSound s wink =
     ∷ leb (s .allocated) 0xffff_fffe
     ∷ leb (s .last) 0xffff_ffff_ffff
     ∷ isTimely s wink
-    ∷ isAtRest (s .max) (s .allocated) (s .assembler)
+    ∷ transacts s
     ∷ [])

@@ -1,29 +1,22 @@
-// The device's side of CTAPHID, after OpenSK's hid/receive.rs, the rest of hid/mod.rs, and main_hid.rs.
+// The device's side of CTAPHID, after the rest of OpenSK's hid/mod.rs, and main_hid.rs.
 
-mod channels;
+mod commands;
+mod hearing;
 mod main_hid;
-mod parts;
-mod receive;
+mod questions;
+mod refusals;
+mod set_up;
 mod shortcut;
 mod soundness;
+mod state;
 mod transport;
 
-pub use channels::echo;
-use packet::CtapHidCommand;
-pub use parts::payload;
+pub use answers::Answer;
+pub use answers::echo;
+pub use answers::payload;
+pub use receive::MessageAssembler;
 
 // Every state is numbers, without padding, so that one type serves Rattle, Rust and C. A timer is its deadline, 0 when unset.
-// A transaction: len is the declared length, and 0 where there is none.
-#[repr(C)]
-pub struct MessageAssembler {
-    pub deadline: u64,
-    pub cid: u32,
-    pub len: u32,
-    pub taken: u32,
-    pub cmd: u16,
-    pub seq: u16,
-}
-
 // The transport. Channels 1 to allocated are allocated; locked holds the lock until the time lock; u2f is 0 for a key without.
 #[repr(C)]
 pub struct CtapHid {
@@ -41,30 +34,6 @@ pub struct CtapHid {
 pub struct MainHid {
     pub hid: CtapHid,
     pub wink: u64,
-}
-
-// What a step answers. A payload is the first len bytes of the message buffer or of the short reply buffer.
-pub enum Answer {
-    Refused(u8),
-    Nothing,
-    // A message that is handed out, in the message buffer.
-    Message {
-        cid: u32,
-        cmd: CtapHidCommand,
-        len: usize,
-    },
-    // A reply whose payload is the request's, in the message buffer.
-    Echo {
-        cid: u32,
-        cmd: CtapHidCommand,
-        len: usize,
-    },
-    // A reply in the short reply buffer.
-    Reply {
-        cid: u32,
-        cmd: CtapHidCommand,
-        len: usize,
-    },
 }
 
 // A fresh transport, or a refusal.

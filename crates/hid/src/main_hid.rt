@@ -2,15 +2,11 @@
 use crate::Answer;
 use crate::CtapHid;
 use crate::MainHid;
-use crate::MainReady;
 use crate::MainStepped;
-use crate::Running;
-use crate::shortcut::Shortcut;
-use crate::shortcut::shorten;
-use crate::transport::fresh;
-use crate::transport::process_packet;
-use crate::transport::refusal;
-use crate::transport::running;
+use crate::refusals::refusal;
+use crate::shortcut::go_on;
+use crate::shortcut::is_due;
+use crate::transport::admit;
 use packet::CtapHidCommand;
 use packet::CtapHidError;
 use packet::Limits;
@@ -19,21 +15,9 @@ ghost use mathlib.Core.List.{[], _∷_};
 ghost use Prim.Native.Nat.{_≤_};
 ghost use lib.ListN.{length};
 ghost use Rattle.collect.specs.Adding.{front};
-ghost use Rattle.hid.specs.Asking.{mainNewOf, winkingOf};
-ghost use Rattle.hid.specs.Outer.{finishing, outer, Winks, Msgs, Requests, Finishes, mainStepping, mainStepOf};
+ghost use Rattle.hid.specs.MainHid.{finishing, outer, Winks, Msgs, Requests, Finishes, Asks, mainStepping, mainStepOf};
 
 impl MainHid {
-    // A fresh device. A maximum above 7,609 is refused with 5.
-    pub fn new(max: usize, u2f: bool) -> MainReady
-        ensures { λ r. ⌜ r ≡ mainNewOf max u2f ⌝ }
-    {
-        if max > Limits::LARGEST_PAYLOAD {
-            return MainReady::Refused(5);
-        }
-        let hid = fresh(max as u32, u2f);
-        MainReady::Hid(MainHid { hid, wink: 0 })
-    }
-
     // Checks 1 to 8. Refusals in the order 1, 2, 3, 4.
     pub fn step(
         self,
@@ -46,32 +30,24 @@ impl MainHid {
         ensures { λ r. ⌜ mainStepping r (now (message .exit)) (now (reply .exit)) ≡ mainStepOf self time disabled (now (packet .entry)) (now (message .entry)) (now (reply .entry)) ⌝ }
     {
         let hid = self.hid;
-        let number = refusal(
-            hid,
-            self.wink,
-            time,
-            packet.len(),
-            message.len(),
-            reply.len(),
-        );
-        if number != 0 {
-            return with_wink(hid, self.wink, Answer::Refused(number));
-        }
-        match shorten(hid, time, disabled, packet, message) {
-            Shortcut::Taken(next) => with_wink(next, self.wink, Answer::Nothing),
-            Shortcut::Open => {
-                let stepped = process_packet(hid, time, disabled, packet, message, reply);
-                let answer = stepped.answer;
-                finish(stepped.hid, self.wink, answer, reply)
+        if is_due(hid, time, disabled, packet) {
+            if refusal(
+                hid,
+                self.wink,
+                time,
+                packet.len(),
+                message.len(),
+                reply.len(),
+            )
+                == 0
+            {
+                let next = go_on(hid, time, packet, message);
+                return with_wink(next, self.wink, Answer::Nothing);
             }
         }
-    }
-
-    // Whether a wink runs at a time. Refusals 3 and 4.
-    pub fn is_winking_at(self, time: u64) -> Running
-        ensures { λ r. ⌜ r ≡ winkingOf self time ⌝ }
-    {
-        running(self.hid, self.wink, time, self.wink)
+        let stepped = admit(hid, self.wink, time, disabled, packet, message, reply);
+        let answer = stepped.answer;
+        finish(stepped.hid, self.wink, answer, reply)
     }
 
     // The step over a lent state, which is left as it came where the call is refused.
@@ -89,18 +65,11 @@ impl MainHid {
         *self = stepped.hid;
         stepped.answer
     }
-
-    // The question over a lent state.
-    pub fn should_wink(&self, time: u64) -> Running
-        ensures { λ r. ⌜ r ≡ winkingOf (now (self .entry)) time ⌝ }
-    {
-        self.is_winking_at(time)
-    }
 }
 
-// Check 8, for whatever the transport answered. Only nothing leaves a wink running.
+// Check 8, for whatever the transport answered. Only a refusal and nothing leave a wink running.
 fn finish(hid: CtapHid, wink: u64, answer: Answer, reply: &mut [u8]) -> MainStepped
-    requires { ⌜ (hid .last ≤ 0xffff_ffff_ffff) × (17 ≤ length (now reply)) ⌝ }
+    requires { ⌜ Asks hid answer (now reply) ⌝ }
     ensures { λ r. ⌜ Finishes hid wink answer (now (reply .entry)) (finishing r (now (reply .exit))) ⌝ }
 {
     match answer {
@@ -116,7 +85,6 @@ fn finish(hid: CtapHid, wink: u64, answer: Answer, reply: &mut [u8]) -> MainStep
             cmd: _,
             len: _,
         } => with_wink(hid, 0, answer),
-        // never: a packet that was heard is not refused
         Answer::Refused(_) => with_wink(hid, wink, answer),
     }
 }
@@ -177,12 +145,7 @@ fn error_reply(hid: CtapHid, cid: u32, error: u8, reply: &mut [u8]) -> MainStepp
     requires { ⌜ 17 ≤ length (now reply) ⌝ }
     ensures { λ r. ⌜ finishing r (now (reply .exit)) ≡ finishing (outer hid 0 (Answer.Reply cid CtapHidCommand.Error 1)) (front (error ∷ []) (now (reply .entry))) ⌝ }
 {
-    reply[0] = error;
-    let answer = Answer::Reply {
-        cid,
-        cmd: CtapHidCommand::Error,
-        len: 1,
-    };
+    let answer = answers::error_message(cid, error, reply);
     with_wink(hid, 0, answer)
 }
 

@@ -2,116 +2,77 @@
 // (docs/SPEED.md says what it saves).
 use crate::CtapHid;
 use crate::MessageAssembler;
-use crate::channels::has_valid_channel;
-use crate::channels::is_shut;
-use crate::receive::Received;
-use crate::transport::at_time;
-use crate::transport::with_assembler;
+use crate::state::with_assembler;
 use packet::Limits;
 use packet::ProcessedPacket;
 use packet::Reading;
+use receive::Received;
 ghost use mathlib.Core.Path.{_≡_};
 ghost use mathlib.Core.List.{_++_};
 ghost use Prim.Native.Nat.{_+_, _≤_, _<_};
 ghost use lib.ListN.{length, take, drop};
-ghost use Rattle.ctaphid.specs.Packets.{read};
 ghost use Rattle.ctaphid.specs.Receiver.{collect};
-ghost use Rattle.packet.specs.Reading.{heard};
-ghost use Rattle.hid.specs.Meaning.{transactionOf};
-ghost use Rattle.hid.specs.Receiving.{assembling, assembledOf, Adds};
-ghost use Rattle.hid.specs.Serving.{arriving};
-ghost use Rattle.hid.specs.Shortcut.{Shortens, AdmitsAll, HearsAll, TellsDue};
+ghost use Rattle.receive.specs.Meaning.{transactionOf};
+ghost use Rattle.receive.specs.Assembler.{assembling, assembledOf, Adds};
+ghost use Rattle.hid.specs.Hearing.{Admits};
+ghost use Rattle.hid.specs.Shortcut.{Due, TellsNext, TellsDue, GoesOn};
 
-pub(crate) enum Shortcut {
-    // Nothing is answered.
-    Taken(CtapHid),
-    // It is another packet, and nothing was done.
-    Open,
-}
-
-// A packet of 64 bytes.
-pub(crate) fn shorten(
-    hid: CtapHid,
-    time: u64,
-    disabled: bool,
-    packet: &[u8],
-    message: &mut [u8],
-) -> Shortcut
-    requires { ⌜ AdmitsAll hid time (now packet) (now message) ⌝ }
-    ensures { λ r. ⌜ Shortens r hid time disabled (read (now (packet .entry))) (now (message .entry)) (now (message .exit)) ⌝ }
+// Whether this is such a packet.
+pub(crate) fn is_due(hid: CtapHid, time: u64, disabled: bool, packet: &[u8]) -> bool
+    ensures { λ r. ⌜ TellsDue r hid time disabled (now (packet .entry)) ⌝ }
 {
-    let next = at_time(hid, time);
+    let a = hid.assembler;
+    if (a.taken as usize) + 59 >= a.len as usize {
+        return false;
+    }
     match packet::process_single_packet(packet) {
-        Reading::Packet(processed) => {
-            let data = packet::packet_data(packet);
-            go_on(next, disabled, processed, data, message)
-        }
-        // never: it has 64 bytes
-        Reading::Refused(_) => Shortcut::Open,
+        Reading::Packet(processed) => is_next(hid, time, disabled, processed),
+        Reading::Refused(_) => false,
     }
 }
 
-// At the state's own last time.
-fn go_on(
-    hid: CtapHid,
-    disabled: bool,
-    packet: ProcessedPacket,
-    data: &[u8],
-    message: &mut [u8],
-) -> Shortcut
-    requires { ⌜ HearsAll hid (heard packet (now «data»)) (now message) ⌝ }
-    requires { ⌜ hid ≡ arriving hid (hid .last) ⌝ }
-    ensures { λ r. ⌜ Shortens r hid (hid .last) disabled (heard packet (now («data» .entry))) (now (message .entry)) (now (message .exit)) ⌝ }
+fn is_next(hid: CtapHid, time: u64, disabled: bool, packet: ProcessedPacket) -> bool
+    ensures { λ r. ⌜ TellsNext r hid time disabled packet ⌝ }
 {
     match packet {
         ProcessedPacket::InitPacket {
             cid: _,
             cmd: _,
             len: _,
-        } => Shortcut::Open,
+        } => false,
         ProcessedPacket::ContinuationPacket { cid, seq } => {
-            if is_due(hid, disabled, packet, cid, seq) {
-                let mut next = hid.assembler;
-                next.deadline = hid.last + Limits::TIMEOUT_MS;
-                next.seq = (seq as u16) + 1;
-                let assembler = append_block(next, data, message);
-                Shortcut::Taken(with_assembler(hid, hid.last, assembler))
-            } else {
-                Shortcut::Open
+            let a = hid.assembler;
+            if a.deadline <= time {
+                return false;
             }
+            if cid != a.cid {
+                return false;
+            }
+            if seq as u16 != a.seq {
+                return false;
+            }
+            if channels::is_shut(hid.lock, hid.locked, time, disabled, cid) {
+                return false;
+            }
+            channels::has_valid_channel(hid.allocated, packet)
         }
     }
 }
 
-fn is_due(hid: CtapHid, disabled: bool, packet: ProcessedPacket, cid: u32, seq: u8) -> bool
-    ensures { λ r. ⌜ TellsDue r hid disabled packet cid seq ⌝ }
+// Check 6 for such a packet.
+pub(crate) fn go_on(hid: CtapHid, time: u64, packet: &[u8], message: &mut [u8]) -> CtapHid
+    requires { ⌜ Admits hid time (now packet) (now message) × Due hid time (now packet) ⌝ }
+    ensures { λ r. ⌜ GoesOn r hid time (now (packet .entry)) (now (message .entry)) (now (message .exit)) ⌝ }
 {
-    let a = hid.assembler;
-    if a.len == 0 {
-        return false;
-    }
-    if a.deadline <= hid.last {
-        return false;
-    }
-    if cid != a.cid {
-        return false;
-    }
-    if seq as u16 != a.seq {
-        return false;
-    }
-    if (a.taken as usize) + 59 >= a.len as usize {
-        return false;
-    }
-    if is_shut(hid.lock, hid.locked, hid.last, disabled, cid) {
-        return false;
-    }
-    if has_valid_channel(hid.allocated, packet) {
-        return true;
-    }
-    false
+    let mut next = hid.assembler;
+    next.deadline = time + Limits::TIMEOUT_MS;
+    next.seq = next.seq + 1;
+    let data = packet::packet_data(packet);
+    let assembler = append_block(next, data, message);
+    with_assembler(hid, time, assembler)
 }
 
-// Check 6, where the data is 59 bytes and more is declared.
+// The data is 59 bytes, and more is declared.
 fn append_block(a: MessageAssembler, data: &[u8], message: &mut [u8]) -> MessageAssembler
     requires { ⌜ Adds a (now message) ⌝ }
     requires { ⌜ (length (now «data») ≡ 59) × (a .taken + 59 < a .len) ⌝ }

@@ -1,12 +1,12 @@
 // Whether a state makes sense: the scope's list, in its order.
 use crate::CtapHid;
 use crate::MessageAssembler;
-use crate::channels::is_allocated;
+use channels::is_allocated;
 use packet::CtapHidCommand;
 use packet::Limits;
 ghost use mathlib.Core.Path.{_≡_};
 ghost use Prim.Native.Nat.{_≤_};
-ghost use Rattle.hid.specs.Soundness.{isSound, isTimely, isHeld, isAtRest, transacts, isOnChannel};
+ghost use Rattle.hid.specs.Soundness.{isSound, isTimely, isHeld, transacts, isPlaced, isOnChannel};
 
 const LONGEST_LOCK_MS: u64 = 10000;
 
@@ -23,8 +23,7 @@ pub(crate) fn is_sound(hid: CtapHid, wink: u64) -> bool
         return false;
     }
     if is_timely(hid, wink) {
-        let assembler = hid.assembler;
-        return is_at_rest(hid.max, hid.allocated, assembler);
+        return transacts(hid);
     }
     false
 }
@@ -56,26 +55,24 @@ fn is_held(hid: CtapHid) -> bool
     true
 }
 
-// There is no transaction, or a sound one.
-fn is_at_rest(max: u32, allocated: u32, a: MessageAssembler) -> bool
-    ensures { λ r. ⌜ r ≡ isAtRest max allocated a ⌝ }
+// There is no transaction, or a sound one on a channel that may have it.
+fn transacts(hid: CtapHid) -> bool
+    ensures { λ r. ⌜ r ≡ transacts hid ⌝ }
+{
+    let assembler = hid.assembler;
+    if assembler.is_sound(hid.max) {
+        return is_placed(hid.allocated, assembler);
+    }
+    false
+}
+
+fn is_placed(allocated: u32, a: MessageAssembler) -> bool
+    ensures { λ r. ⌜ r ≡ isPlaced allocated a ⌝ }
 {
     if a.len == 0 {
         return true;
     }
-    transacts(max, allocated, a)
-}
-
-fn transacts(max: u32, allocated: u32, a: MessageAssembler) -> bool
-    ensures { λ r. ⌜ r ≡ transacts max allocated a ⌝ }
-{
-    if a.cmd > 127 {
-        return false;
-    }
-    if collect::stands(max as usize, a.len as usize, a.taken as usize, a.seq) {
-        return is_on_channel(allocated, a.cid, a.cmd);
-    }
-    false
+    is_on_channel(allocated, a.cid, a.cmd)
 }
 
 // An allocated channel, or INIT on the broadcast channel.

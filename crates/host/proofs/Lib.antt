@@ -2,6 +2,4 @@ pub mod Sound
 pub mod Receiving
 pub mod Refusing
 pub mod Fields
-pub mod Wire
-pub mod Refines
 pub mod Unique

@@ -2,6 +2,7 @@
 use crate::InitAnswer;
 use crate::InitReply;
 use packet::CtapHidCommand;
+use packet::Refusal;
 ghost use mathlib.Core.Path.{_≡_};
 ghost use mathlib.Core.List.{[], _∷_};
 ghost use Rattle.ctaphid.specs.Host.{initOf, initFields, initFieldsOf};
@@ -28,7 +29,7 @@ fn no_reply() -> InitReply
 {
     InitReply {
         nonce: [0; 8],
-        answer: InitAnswer::Refused(11),
+        answer: InitAnswer::Refused(Refusal::NOT_INIT),
     }
 }
 

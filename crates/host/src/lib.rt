@@ -1,7 +1,7 @@
 // The host's side of CTAPHID: the packets of one channel put together into replies. OpenSK has none; the scope says what it does.
 
 mod init;
-mod receive;
+mod reading;
 mod soundness;
 
 pub use init::init_reply;

@@ -1,5 +1,6 @@
 -- What reading a packet answers, and that it says which answer it was. Assumes nothing.
 use Prim.Native.Nat.{ℕ, _-_, _≤_, _<_}
+use native.Mathlib.Decide.{ℕ-discrete}
 use mathlib.Core.Path.{_≡_, refl, sym, ap, subst, _∙_}
 use mathlib.Core.List.{List}
 use borrow.Author.Tests.{eq-eqb, ne-eqb}
@@ -44,7 +45,21 @@ answer-said (reading.Refused number) field = refl
 pub said-one : (field : List ℕ) (x y : Reading) → said x field ≡ said y field → x ≡ y
 said-one field x y e = sym (answer-said x field) ∙ (ap answer e ∙ answer-said y field)
 
--- ---- a packet of 64 bytes is read
+-- ---- what is read as a packet has 64 bytes
+pub packet-size : (p : List ℕ) (x : Reading) → said x (fieldOf (readingOf p)) ≡ readingOf p → {processed : ProcessedPacket} → x ≡ reading.Packet processed → length p ≡ 64
+packet-size p x e {processed} k = by-size (ℕ-discrete (length p) 64)
+  where
+    kind : Read → Type 0
+    kind (refused number) = ⊥
+    kind (packet q) = Unit {0}
+
+    by-size : Dec (length p ≡ 64) → length p ≡ 64
+    by-size (yes size) = size
+    by-size (no n) =
+        let z : packet (heard processed (fieldOf (readingOf p))) ≡ refused 1 = sym (ap (λ (y : Reading). said y (fieldOf (readingOf p))) k) ∙ (e ∙ refuses p n) in
+        absurd (subst (λ (y : Read). kind y) z tt)
+
+-- ---- and one of 64 bytes is read
 module _ (p : List ℕ) (size : length p ≡ 64) (x : Reading) (e : said x (fieldOf (readingOf p)) ≡ readingOf p) where
   pub never-refused : {n : ℕ} {A : Type 0} → x ≡ reading.Refused n → A
   never-refused {n} k =

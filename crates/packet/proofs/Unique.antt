@@ -12,13 +12,16 @@ use Rattle.packet.proofs.Packets.{said-one}
 use Rattle.packet.proofs.process_single_packet as process
 use Rattle.packet.proofs.packet_data as part
 use Rattle.packet.proofs.be32 as be32
+use Rattle.packet.proofs.ProcessedPacket.channel as channel
 use Rattle.packet.proofs.command.CtapHidCommand.from_u8 as from-u8
 use Rattle.packet.proofs.command.CtapHidCommand.number as number
 use Rattle.packet.proofs.error.CtapHidError.code as code
 use Rattle.packet.proofs.capability.Capability.bit as bit
 use Rattle.packet.proofs.capability.Capability.reported as reported
+use Rattle.packet.proofs.refusal.Refusal.number as refusal-number
 use Rattle.packet.proofs.limits.Limits.packet_size as packet-size
 use Rattle.packet.proofs.limits.Limits.largest_payload as largest-payload
+use Rattle.packet.proofs.limits.Limits.short_reply_size as short-reply-size
 use Rattle.packet.proofs.limits.Limits.timeout_ms as timeout-ms
 use Rattle.packet.proofs.limits.Limits.wink_timeout_ms as wink-timeout-ms
 use Rattle.packet.proofs.limits.Limits.last_time_ms as last-time-ms
@@ -27,6 +30,12 @@ pub process-single-packet-one : OneOutcome process.ended (λ M 𝓤. process.cla
 process-single-packet-one = record {
   stated = λ M 𝓤 H A mem run. refl;
   one = λ 𝓤 H A mem run κs a g x y v w. from-facts 𝓤 (λ p q. (said-one _ x y (p ∙ sym q), refl));
+}
+
+pub channel-one : OneOutcome channel.ended (λ M 𝓤. channel.clauses 𝓤) (λ M 𝓤. channel.spec 𝓤)
+channel-one = record {
+  stated = λ M 𝓤 H A mem run. refl;
+  one = λ 𝓤 H A mem run κs a g x y v w. from-facts 𝓤 (λ p q. (p ∙ sym q, refl));
 }
 
 pub be32-one : OneOutcome be32.ended (λ M 𝓤. be32.clauses 𝓤) (λ M 𝓤. be32.spec 𝓤)
@@ -76,6 +85,12 @@ reported-one = record {
   one = λ 𝓤 H A mem run κs a g x y v w. from-facts 𝓤 (λ p q. (p ∙ sym q, refl));
 }
 
+pub refusal-number-one : OneOutcome refusal-number.ended (λ M 𝓤. refusal-number.clauses 𝓤) (λ M 𝓤. refusal-number.spec 𝓤)
+refusal-number-one = record {
+  stated = λ M 𝓤 H A mem run. refl;
+  one = λ 𝓤 H A mem run κs a g x y v w. from-facts 𝓤 (λ p q. (p ∙ sym q, refl));
+}
+
 pub packet-size-one : OneOutcome packet-size.ended (λ M 𝓤. packet-size.clauses 𝓤) (λ M 𝓤. packet-size.spec 𝓤)
 packet-size-one = record {
   stated = λ M 𝓤 H A mem run. refl;
@@ -84,6 +99,12 @@ packet-size-one = record {
 
 pub largest-payload-one : OneOutcome largest-payload.ended (λ M 𝓤. largest-payload.clauses 𝓤) (λ M 𝓤. largest-payload.spec 𝓤)
 largest-payload-one = record {
+  stated = λ M 𝓤 H A mem run. refl;
+  one = λ 𝓤 H A mem run κs a g x y v w. from-facts 𝓤 (λ p q. (p ∙ sym q, refl));
+}
+
+pub short-reply-size-one : OneOutcome short-reply-size.ended (λ M 𝓤. short-reply-size.clauses 𝓤) (λ M 𝓤. short-reply-size.spec 𝓤)
+short-reply-size-one = record {
   stated = λ M 𝓤 H A mem run. refl;
   one = λ 𝓤 H A mem run κs a g x y v w. from-facts 𝓤 (λ p q. (p ∙ sym q, refl));
 }

@@ -1,13 +1,16 @@
--- What each case of the code's enums is in the standard. Assumes nothing.
+-- What each case of the code's enums is in the definition. Assumes nothing.
 use Rattle.ctaphid.specs.Commands as standard
 use Rattle.ctaphid.specs.Errors as errors
 use Rattle.ctaphid.specs.Capabilities as capabilities
+use Rattle.ctaphid.specs.Refusals as refusals
 use Rattle.packet.specs.declared.command.CtapHidCommand.{CtapHidCommand}
 use Rattle.packet.specs.declared.command.CtapHidCommand.the-variants.{Ping, Msg, Lock, Init, Wink, Cbor, Cancel, Keepalive, Error}
 use Rattle.packet.specs.declared.error.CtapHidError.{CtapHidError}
 use Rattle.packet.specs.declared.error.CtapHidError.the-variants.{InvalidCmd, InvalidPar, InvalidLen, InvalidSeq, MsgTimeout, ChannelBusy, InvalidChannel}
 use Rattle.packet.specs.declared.capability.Capability.{Capability}
 use Rattle.packet.specs.declared.capability.Capability.the-variants.{Wink as HasWink, Cbor as HasCbor, Nmsg}
+use Rattle.packet.specs.declared.refusal.Refusal.{Refusal}
+use Rattle.packet.specs.declared.refusal.Refusal.the-variants.{PacketSize, ShortBuffer, Unsound, Time, Maximum, Index, LongPayload, LongPing, Sequence, LongReply, NotInit, Command}
 
 abbrev pub commandMeant : CtapHidCommand → standard.Command
 commandMeant Ping = standard.PING
@@ -45,3 +48,17 @@ abbrev pub capabilityMeant : Capability → capabilities.Capability
 capabilityMeant HasWink = capabilities.wink
 capabilityMeant HasCbor = capabilities.cbor
 capabilityMeant Nmsg = capabilities.nmsg
+
+abbrev pub refusalMeant : Refusal → refusals.Refusal
+refusalMeant PacketSize = refusals.PacketSize
+refusalMeant ShortBuffer = refusals.ShortBuffer
+refusalMeant Unsound = refusals.Unsound
+refusalMeant Time = refusals.Time
+refusalMeant Maximum = refusals.Maximum
+refusalMeant Index = refusals.Index
+refusalMeant LongPayload = refusals.LongPayload
+refusalMeant LongPing = refusals.LongPing
+refusalMeant Sequence = refusals.Sequence
+refusalMeant LongReply = refusals.LongReply
+refusalMeant NotInit = refusals.NotInit
+refusalMeant Command = refusals.Command

@@ -3,19 +3,38 @@ mod capability;
 mod command;
 mod error;
 mod limits;
+mod refusal;
 
 pub use capability::Capability;
 pub use command::CtapHidCommand;
 pub use error::CtapHidError;
 pub use limits::Limits;
+pub use refusal::Refusal;
 ghost use mathlib.Core.Path.{_≡_};
 ghost use Prim.Native.Nat.{_+_, _*_};
-ghost use Rattle.packet.specs.Reading.{said, readingOf, fieldOf, IsField};
+ghost use mathlib.Core.List.{[]};
+ghost use Rattle.ctaphid.specs.Receiver.{channelOf};
+ghost use Rattle.packet.specs.Reading.{heard, said, readingOf, fieldOf, IsField};
 
 // A packet's kind and numbers. Its data comes from packet_data.
 pub enum ProcessedPacket {
     InitPacket { cid: u32, cmd: u8, len: usize },
     ContinuationPacket { cid: u32, seq: u8 },
+}
+
+impl ProcessedPacket {
+    pub fn channel(self) -> u32
+        ensures { λ r. ⌜ r ≡ channelOf (heard self []) ⌝ }
+    {
+        match self {
+            ProcessedPacket::InitPacket {
+                cid,
+                cmd: _,
+                len: _,
+            } => cid,
+            ProcessedPacket::ContinuationPacket { cid, seq: _ } => cid,
+        }
+    }
 }
 
 pub enum Reading {
@@ -28,7 +47,7 @@ pub fn process_single_packet(packet: &[u8]) -> Reading
     ensures { λ r. ⌜ said r (fieldOf (readingOf (now (packet .entry)))) ≡ readingOf (now (packet .entry)) ⌝ }
 {
     if packet.len() != Limits::PACKET_SIZE {
-        return Reading::Refused(1);
+        return Reading::Refused(Refusal::PACKET_SIZE);
     }
     let cid = be32(packet[0], packet[1], packet[2], packet[3]);
     let kind = packet[4];

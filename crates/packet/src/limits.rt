@@ -1,6 +1,6 @@
 // Sizes and times. Each function ties a constant to the number of the definition.
 ghost use mathlib.Core.Path.{_≡_};
-ghost use Rattle.ctaphid.specs.Limits.{packetSize, largest, timeout, winkTime, lastTime};
+ghost use Rattle.ctaphid.specs.Limits.{packetSize, largest, shortReply, timeout, winkTime, lastTime};
 
 pub struct Limits;
 
@@ -8,6 +8,8 @@ impl Limits {
     pub const PACKET_SIZE: usize = 64;
 
     pub const LARGEST_PAYLOAD: usize = 57 + 128 * 59;
+
+    pub const SHORT_REPLY_SIZE: usize = 17;
 
     pub const TIMEOUT_MS: u64 = 100;
 
@@ -25,6 +27,12 @@ impl Limits {
         ensures { λ r. ⌜ r ≡ largest ⌝ }
     {
         Self::LARGEST_PAYLOAD
+    }
+
+    pub fn short_reply_size() -> usize
+        ensures { λ r. ⌜ r ≡ shortReply ⌝ }
+    {
+        Self::SHORT_REPLY_SIZE
     }
 
     pub fn timeout_ms() -> u64

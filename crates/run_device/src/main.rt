@@ -5,11 +5,12 @@ use hid::MainHid;
 use hid::MainReady;
 use hid::Running;
 use libc::STDOUT_FILENO;
+use packet::Limits;
 use report::hex;
 use report::text;
 
 fn main() {
-    match MainHid::new(7609, true) {
+    match MainHid::new(Limits::LARGEST_PAYLOAD, true) {
         MainReady::Hid(hid) => {
             text(
                 b"a broadcast INIT declared 60 blocks all others for 100 ms, and its continuation gets nothing\n",
@@ -47,10 +48,10 @@ fn winked(fresh: MainHid) {
 
 // A packet that begins so and whose other bytes are 0.
 fn step(hid: MainHid, time: u64, front: &[u8]) -> MainHid {
-    let mut packet = [0u8; 64];
-    let mut message = [0u8; 7609];
-    let mut reply = [0u8; 17];
-    if front.len() > 64 {
+    let mut packet = [0u8; Limits::PACKET_SIZE];
+    let mut message = [0u8; Limits::LARGEST_PAYLOAD];
+    let mut reply = [0u8; Limits::SHORT_REPLY_SIZE];
+    if front.len() > Limits::PACKET_SIZE {
         return hid;
     }
     bytes::copy(front, &mut packet);

@@ -1,5 +1,6 @@
 // Runs packets through the reader and writes what it makes of each: a line for the packet, its data included.
 use libc::STDOUT_FILENO;
+use packet::Limits;
 use packet::ProcessedPacket;
 use packet::Reading;
 use report::hex;
@@ -25,8 +26,8 @@ fn main() {
 
 // A packet that begins so and whose other bytes are 0.
 fn read_front(front: &[u8]) {
-    let mut packet = [0u8; 64];
-    if front.len() > 64 {
+    let mut packet = [0u8; Limits::PACKET_SIZE];
+    if front.len() > Limits::PACKET_SIZE {
         return;
     }
     bytes::copy(front, &mut packet);

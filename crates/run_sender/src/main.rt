@@ -2,6 +2,7 @@
 use libc::STDOUT_FILENO;
 use packet::CtapHidCommand;
 use packet::Limits;
+use packet::Refusal;
 use report::hex;
 use report::text;
 use send::Written;
@@ -32,7 +33,7 @@ fn send_message(payload: &[u8]) {
     } else {
         text(b" bytes\n");
     }
-    let mut packet = [0u8; 64];
+    let mut packet = [0u8; Limits::PACKET_SIZE];
     for index in 0..130 {
         if show(packet_at(payload, index, &mut packet), &packet) {
             return;
@@ -64,7 +65,7 @@ fn show(wrote: Written, packet: &[u8]) -> bool {
             false
         }
         Written::Refused(number) => {
-            if number == 6 {
+            if number == Refusal::INDEX {
                 text(b"none left\n");
             } else {
                 text(b"refused\n");

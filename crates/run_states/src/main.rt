@@ -5,11 +5,19 @@ use hid::Answer;
 use hid::CtapHid;
 use hid::MainHid;
 use hid::MainReady;
+use hid::MainStepped;
 use hid::MessageAssembler;
 use hid::Ready;
 use hid::Running;
 use libc::STDOUT_FILENO;
+use packet::Limits;
 use report::text;
+
+// What is tried: a transport, or a device.
+enum Layer {
+    Transport,
+    Device,
+}
 
 const LAST: u64 = 1000;
 
@@ -185,31 +193,11 @@ fn times() {
     trial_at(b"time 2^48", base(), TWO_TO_48);
 }
 
-// One fault after the other is repaired: the packet, the message buffer, the reply buffer, the state, the time.
 fn order() {
-    let mut unsound = base();
-    unsound.lock = LAST + 10001;
-    let early = LAST - 1;
-    let mut message = [0u8; 200];
-    let mut reply = [0u8; 17];
-    let mut few = [0u8; 199];
-    let mut short = [0u8; 16];
-    let cut = [0u8; 63];
-    let whole = [0u8; 64];
-    text(b"all four faults:");
-    step(unsound, early, &cut, &mut few, &mut short);
-    step(unsound, early, &whole, &mut few, &mut short);
-    step(unsound, early, &whole, &mut message, &mut short);
-    step(unsound, early, &whole, &mut message, &mut reply);
-    step(base(), early, &whole, &mut message, &mut reply);
-    step(base(), LAST, &whole, &mut message, &mut reply);
-    text(b"\n");
-}
-
-fn step(hid: CtapHid, time: u64, packet: &[u8], message: &mut [u8], reply: &mut [u8]) {
-    let stepped = hid.step(time, false, packet, message, reply);
-    let answer = stepped.answer;
-    show(answer);
+    let mut hid = base();
+    hid.lock = LAST + 10001;
+    let unsound = MainHid { hid, wink: LAST };
+    repairs(b"all four faults:", Layer::Transport, unsound);
 }
 
 fn main_order() {
@@ -217,6 +205,11 @@ fn main_order() {
         hid: base(),
         wink: LAST + 5001,
     };
+    repairs(b"all four faults, the device:", Layer::Device, unsound);
+}
+
+// One fault after the other is repaired: the packet, the message buffer, the reply buffer, the state, the time.
+fn repairs(name: &[u8], layer: Layer, unsound: MainHid) {
     let sound = MainHid {
         hid: base(),
         wink: LAST,
@@ -228,18 +221,25 @@ fn main_order() {
     let mut short = [0u8; 16];
     let cut = [0u8; 63];
     let whole = [0u8; 64];
-    text(b"all four faults, the device:");
-    main_step(unsound, early, &cut, &mut few, &mut short);
-    main_step(unsound, early, &whole, &mut few, &mut short);
-    main_step(unsound, early, &whole, &mut message, &mut short);
-    main_step(unsound, early, &whole, &mut message, &mut reply);
-    main_step(sound, early, &whole, &mut message, &mut reply);
-    main_step(sound, LAST, &whole, &mut message, &mut reply);
+    text(name);
+    answered(layer, unsound, early, &cut, &mut few, &mut short);
+    answered(layer, unsound, early, &whole, &mut few, &mut short);
+    answered(layer, unsound, early, &whole, &mut message, &mut short);
+    answered(layer, unsound, early, &whole, &mut message, &mut reply);
+    answered(layer, sound, early, &whole, &mut message, &mut reply);
+    answered(layer, sound, LAST, &whole, &mut message, &mut reply);
     text(b"\n");
 }
 
-fn main_step(main: MainHid, time: u64, packet: &[u8], message: &mut [u8], reply: &mut [u8]) {
-    let stepped = main.step(time, false, packet, message, reply);
+fn answered(
+    layer: Layer,
+    main: MainHid,
+    time: u64,
+    packet: &[u8],
+    message: &mut [u8],
+    reply: &mut [u8],
+) {
+    let stepped = step(layer, main, time, packet, message, reply);
     let answer = stepped.answer;
     show(answer);
 }
@@ -284,43 +284,62 @@ fn trial_at(name: &[u8], hid: CtapHid, time: u64) {
 
 // The packet is a PING of two bytes on channel 1.
 fn trial_with(name: &[u8], hid: CtapHid, wink: u64, time: u64, message: &mut [u8]) {
-    let mut packet = [0u8; 64];
-    packet[3] = 1;
-    packet[4] = 0x81;
-    packet[6] = 2;
-    packet[7] = 0xAB;
-    packet[8] = 0xCD;
+    let mut packet = [0u8; Limits::PACKET_SIZE];
+    bytes::copy(b"\x00\x00\x00\x01\x81\x00\x02\xab\xcd", &mut packet);
+    let main = MainHid { hid, wink };
     text(name);
     text(b":");
-    transport(hid, time, &packet, message);
+    tried(Layer::Transport, main, time, &packet, message);
     text(b";");
-    device(MainHid { hid, wink }, time, &packet, message);
+    tried(Layer::Device, main, time, &packet, message);
     text(b"\n");
 }
 
-fn transport(hid: CtapHid, time: u64, packet: &[u8], message: &mut [u8]) {
-    let mut reply = [0u8; 17];
+fn tried(layer: Layer, main: MainHid, time: u64, packet: &[u8], message: &mut [u8]) {
+    let mut reply = [0u8; Limits::SHORT_REPLY_SIZE];
     fill(message);
     fill(&mut reply);
-    let stepped = hid.step(time, false, packet, message, &mut reply);
+    let stepped = step(layer, main, time, packet, message, &mut reply);
     let answer = stepped.answer;
     show(answer);
-    say(hid.is_locked_at(time));
-    let state = same(hid, stepped.hid);
+    say(asked(layer, main, time));
+    let state = same_main(main, stepped.hid);
     as_it_came(state && is_filled(message) && is_filled(&reply));
 }
 
-fn device(main: MainHid, time: u64, packet: &[u8], message: &mut [u8]) {
-    let mut reply = [0u8; 17];
-    fill(message);
-    fill(&mut reply);
-    let stepped = main.step(time, false, packet, message, &mut reply);
-    let answer = stepped.answer;
-    show(answer);
-    say(main.is_winking_at(time));
-    let after = stepped.hid;
-    let state = same(main.hid, after.hid) && main.wink == after.wink;
-    as_it_came(state && is_filled(message) && is_filled(&reply));
+// A step of the transport leaves the wink as it is.
+fn step(
+    layer: Layer,
+    main: MainHid,
+    time: u64,
+    packet: &[u8],
+    message: &mut [u8],
+    reply: &mut [u8],
+) -> MainStepped {
+    match layer {
+        Layer::Device => main.step(time, false, packet, message, reply),
+        Layer::Transport => {
+            let below = main.hid;
+            let stepped = below.step(time, false, packet, message, reply);
+            let hid = stepped.hid;
+            let answer = stepped.answer;
+            let after = MainHid {
+                hid,
+                wink: main.wink,
+            };
+            MainStepped { hid: after, answer }
+        }
+    }
+}
+
+fn asked(layer: Layer, main: MainHid, time: u64) -> Running {
+    match layer {
+        Layer::Device => main.is_winking_at(time),
+        Layer::Transport => {
+            let hid = main.hid;
+            hid.is_locked_at(time)
+        }
+    }
 }
 
 fn fill(buffer: &mut [u8]) {
@@ -336,6 +355,10 @@ fn is_filled(buffer: &[u8]) -> bool {
         }
     }
     true
+}
+
+fn same_main(a: MainHid, b: MainHid) -> bool {
+    same(a.hid, b.hid) && a.wink == b.wink
 }
 
 fn same(a: CtapHid, b: CtapHid) -> bool {
@@ -358,24 +381,10 @@ fn same_assembler(a: MessageAssembler, b: MessageAssembler) -> bool {
 }
 
 fn show(answer: Answer) {
-    match answer {
-        Answer::Refused(number) => refused(number),
-        Answer::Nothing => text(b" taken"),
-        Answer::Message {
-            cid: _,
-            cmd: _,
-            len: _,
-        } => text(b" taken"),
-        Answer::Echo {
-            cid: _,
-            cmd: _,
-            len: _,
-        } => text(b" taken"),
-        Answer::Reply {
-            cid: _,
-            cmd: _,
-            len: _,
-        } => text(b" taken"),
+    if let Answer::Refused(number) = answer {
+        refused(number);
+    } else {
+        text(b" taken");
     }
 }
 

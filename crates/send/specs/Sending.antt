@@ -1,5 +1,6 @@
 -- What sending a message's packets answers, and what it leaves in the packet that is lent. Assumes nothing.
-use Prim.Native.Nat.{ℕ}
+use Prim.Native.Nat.{ℕ, _+_, _/_, _≤_, _<_}
+use mathlib.Core.Path.{_≡_}
 use mathlib.Core.List.{List, [], _∷_}
 use mathlib.Core.Bool.{not}
 use lib.ListN.{length, getD}
@@ -44,3 +45,10 @@ splitOf cid cmd payload internal index old =
     refusing (λ number. left (Refused number) old)
     ((not (eqb (length old) packetSize), 1) ∷ (ltb 127 cmd, 12) ∷ [])
     (sent (splitWire cid cmd payload internal) index old)
+
+-- what must be so for a packet to be written
+pub record Puts (cmd : ℕ) (payload : List ℕ) (index : ℕ) (packet : List ℕ) : Type 0 where
+  pub size : length packet ≡ 64
+  pub command : cmd ≤ 127
+  pub short : length payload ≤ 7609
+  pub within : index < 1 + (length payload + 1) / 59

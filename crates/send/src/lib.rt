@@ -3,6 +3,7 @@ mod sender;
 
 use packet::CtapHidCommand;
 use packet::Limits;
+use packet::Refusal;
 pub use sender::Admission;
 pub use sender::Next;
 pub use sender::Sender;
@@ -10,12 +11,12 @@ pub use sender::Started;
 ghost use mathlib.Core.Path.{_≡_};
 ghost use mathlib.Core.List.{[], _∷_, _++_};
 ghost use Prim.Native.Nat.{_+_, _-_, _/_, _*_, _≤_, _<_};
-ghost use lib.ListN.{length, take, drop, replicate};
+ghost use lib.ListN.{length, take, drop, replicate, getD};
 ghost use lib.Dec.{eqb};
 ghost use Rattle.ctaphid.specs.Choice.{pick};
 ghost use Rattle.ctaphid.specs.Packets.{four, initialization, continuation, written};
-ghost use Rattle.ctaphid.specs.Messages.{padded};
-ghost use Rattle.send.specs.Sending.{countOf, left, writeOf, splitOf};
+ghost use Rattle.ctaphid.specs.Messages.{padded, wire};
+ghost use Rattle.send.specs.Sending.{countOf, left, writeOf, splitOf, Puts};
 
 // How many packets a payload takes.
 pub enum Count {
@@ -28,7 +29,7 @@ pub fn packet_count(len: usize) -> Count
     ensures { λ r. ⌜ r ≡ countOf len ⌝ }
 {
     if len > Limits::LARGEST_PAYLOAD {
-        return Count::Refused(7);
+        return Count::Refused(Refusal::LONG_PAYLOAD);
     }
     Count::Packets(packets_in(len))
 }
@@ -44,24 +45,18 @@ pub fn write_packet(cid: u32, cmd: u8, payload: &[u8], index: usize, packet: &mu
     ensures { λ r. ⌜ left r (now (packet .exit)) ≡ writeOf cid cmd (now (payload .entry)) index (now (packet .entry)) ⌝ }
 {
     if packet.len() != Limits::PACKET_SIZE {
-        return Written::Refused(1);
+        return Written::Refused(Refusal::PACKET_SIZE);
     }
     if cmd > 127 {
-        return Written::Refused(12);
+        return Written::Refused(Refusal::COMMAND);
     }
     if payload.len() > Limits::LARGEST_PAYLOAD {
-        return Written::Refused(7);
+        return Written::Refused(Refusal::LONG_PAYLOAD);
     }
     if index >= packets_in(payload.len()) {
-        return Written::Refused(6);
+        return Written::Refused(Refusal::INDEX);
     }
-    let at = data_at(index);
-    consume_data(packet, front_size(index), &payload[at..]);
-    if index == 0 {
-        init_packet(cid, cmd, payload.len(), packet);
-        return Written::Packet;
-    }
-    continuation_packet(cid, index, packet);
+    put_packet(cid, cmd, payload, index, packet);
     Written::Packet
 }
 
@@ -81,13 +76,27 @@ pub fn split_message(
         return write_packet(cid, cmd, payload, index, packet);
     }
     if packet.len() != Limits::PACKET_SIZE {
-        return Written::Refused(1);
+        return Written::Refused(Refusal::PACKET_SIZE);
     }
     if cmd > 127 {
-        return Written::Refused(12);
+        return Written::Refused(Refusal::COMMAND);
     }
     let replacement = [internal_error];
     write_packet(cid, CtapHidCommand::CBOR, &replacement, index, packet)
+}
+
+// The packet at an index that there is: its data, then its front.
+fn put_packet(cid: u32, cmd: u8, payload: &[u8], index: usize, packet: &mut [u8])
+    requires { ⌜ Puts cmd (now payload) index (now packet) ⌝ }
+    ensures { λ _. ⌜ now (packet .exit) ≡ getD (wire cid cmd (now (payload .entry))) index [] ⌝ }
+{
+    let at = data_at(index);
+    consume_data(packet, front_size(index), &payload[at..]);
+    if index == 0 {
+        init_packet(cid, cmd, payload.len(), packet);
+        return;
+    }
+    continuation_packet(cid, index, packet);
 }
 
 fn packets_in(len: usize) -> usize

@@ -3,6 +3,7 @@ use crate::Written;
 use crate::packets_in;
 use crate::write_packet;
 use packet::Limits;
+use packet::Refusal;
 ghost use mathlib.Core.Path.{_≡_};
 ghost use Rattle.send.specs.Sender.{admitted, startedOf, hasMore, sent, sentOf, Sends};
 
@@ -76,10 +77,10 @@ pub(crate) fn admits(payload: &[u8], cmd: u8) -> Admission
     ensures { λ r. ⌜ r ≡ admitted cmd (now (payload .entry)) ⌝ }
 {
     if cmd > 127 {
-        return Admission::Refused(12);
+        return Admission::Refused(Refusal::COMMAND);
     }
     if payload.len() > Limits::LARGEST_PAYLOAD {
-        return Admission::Refused(7);
+        return Admission::Refused(Refusal::LONG_PAYLOAD);
     }
     Admission::Admitted
 }
@@ -96,7 +97,7 @@ pub(crate) fn send_at(payload: &[u8], cid: u32, cmd: u8, index: usize, packet: &
         Written::Refused(number) => {
             if number == 1 {
                 Moved {
-                    answer: Next::Refused(1),
+                    answer: Next::Refused(Refusal::PACKET_SIZE),
                     next: index,
                 }
             } else {

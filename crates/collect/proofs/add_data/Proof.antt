@@ -1,8 +1,9 @@
 -- `add_data` meets its contract. Assumes nothing.
 use Prim.Native.Nat.{_+_}
 use native.Mathlib.Omega.{arith}
-use mathlib.Core.Path.{sym, ap, _∙_}
-use lib.ListN.{length, length-take}
+use mathlib.Core.Path.{_≡_, sym, ap, _∙_}
+use mathlib.Core.List.{_++_}
+use lib.ListN.{length, take, drop, length-take}
 use Rattle.collect.specs.Adding.{added}
 use Rattle.collect.specs.declared.Added.the-variants.{Waiting, Whole}
 use Rattle.collect.proofs.Adding.{put-front, put-left, add-over, add-room, add-waits, add-whole}
@@ -35,8 +36,11 @@ returns-3 : tie.Need-returns-3
 returns-3 c =
     let at-put = c .before .before in
     let a = at-put .before .before .before .before .before .before .before .args in
-    ap (added (Waiting (a .taken + length (a .«data» .now)))) (at-put .put .ensures ∙ put-front (a .message .now) (a .«data» .now) (a .taken) (omega arith))
-    ∙ sym (add-waits _ _ _ _ (omega arith) (omega arith) (omega arith))
+    let m = a .message .now in
+    let field = a .«data» .now in
+    let put : at-put .put .last .0 ≡ take (a .taken) m ++ (field ++ drop (a .taken + length field) m) = at-put .put .ensures in
+    ap (added (Waiting (a .taken + length field))) (put ∙ put-front m field (a .taken) (omega arith))
+    ∙ sym (add-waits m (a .taken) (a .len) field (omega arith) (omega arith) (omega arith))
 
 same-length-2 : tie.Need-same-length-2
 same-length-2 c = search needs

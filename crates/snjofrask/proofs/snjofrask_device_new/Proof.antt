@@ -40,7 +40,7 @@ use denote.Triple.Table.{entered, cited}
 use denote.Triple.Walked.{says, Stays, stay-ref, stay-none, walkOf, AllGo, goes-none, goes-ref, Walks, ends-at, walked, walk-meets}
 use denote.Triple.Clauses.{ensured, lasts}
 use denote.Exit.{yes}
-use Rattle.hid.specs.Asking.{mainNewOf}
+use Rattle.hid.specs.SetUp.{mainNewOf}
 use Rattle.flat.specs.Telling.{isSet, mainMadeOf}
 use Rattle.flat.specs.declared.MadeMain.{MadeMain}
 use Rattle.flat.proofs.MadeMain as MadeMain-T

@@ -43,7 +43,7 @@ use denote.Triple.Table.{entered, cited}
 use denote.Triple.Walked.{says, Stays, stay-ref, stay-none, stay-none-slice, gave-slice, walkOf, AllGo, goes-none, goes-ref, goes-none-slice, goes-gave-slice, Walks, ends-at, walked, walk-meets}
 use denote.Triple.Clauses.{ensured, lasts}
 use denote.Exit.{yes}
-use Rattle.hid.specs.Outer.{mainStepOf}
+use Rattle.hid.specs.MainHid.{mainStepOf}
 use Rattle.flat.specs.Telling.{isSet, mainFlat, mainFlatOf}
 use Rattle.flat.specs.declared.FlatMain.{FlatMain}
 use Rattle.flat.proofs.FlatMain as FlatMain-T

@@ -40,7 +40,7 @@ use denote.Triple.Table.{entered, cited}
 use denote.Triple.Walked.{says, Stays, stay-ref, stay-none, walkOf, AllGo, goes-none, goes-ref, Walks, ends-at, walked, walk-meets}
 use denote.Triple.Clauses.{ensured, lasts}
 use denote.Exit.{yes}
-use Rattle.hid.specs.Asking.{newOf}
+use Rattle.hid.specs.SetUp.{newOf}
 use Rattle.flat.specs.Telling.{isSet, madeOf}
 use Rattle.hid.specs.declared.CtapHid.{CtapHid}
 use Rattle.hid.proofs.CtapHid as CtapHid-T

@@ -39,7 +39,7 @@ use denote.Triple.Table.{entered, cited}
 use denote.Triple.Walked.{says, Stays, stay-none-ref, stay-none, walkOf, AllGo, goes-none, goes-none-ref, Walks, ends-at, walked, walk-meets}
 use denote.Triple.Clauses.{ensured, lasts}
 use denote.Exit.{yes}
-use Rattle.hid.specs.Asking.{lockedOf}
+use Rattle.hid.specs.Questions.{lockedOf}
 use Rattle.hid.specs.declared.CtapHid.{CtapHid}
 use Rattle.hid.proofs.CtapHid as CtapHid-T
 use Rattle.hid.proofs.CtapHid.Laws as CtapHid-L

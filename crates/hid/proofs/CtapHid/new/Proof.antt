@@ -1,6 +1,6 @@
 -- `new` meets its contract. Assumes nothing.
 use Rattle.ctaphid.proofs.Tests.{tests}
-use Rattle.hid.specs.Asking.{newOf}
+use Rattle.hid.specs.SetUp.{newOf}
 use borrow.Author.Needs.{needs}
 use Rattle.hid.proofs.CtapHid.new.Statement.{statement}
 use Rattle.hid.proofs.CtapHid.new.Tie as tie

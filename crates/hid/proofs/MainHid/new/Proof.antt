@@ -1,7 +1,7 @@
 -- `new` meets its contract. Assumes nothing.
 use Rattle.ctaphid.proofs.Tests.{tests}
 use Rattle.hid.proofs.Finishing.{new-main}
-use Rattle.hid.specs.Asking.{mainNewOf}
+use Rattle.hid.specs.SetUp.{mainNewOf}
 use borrow.Author.Needs.{needs}
 use Rattle.hid.proofs.MainHid.new.Statement.{statement}
 use Rattle.hid.proofs.MainHid.new.Tie as tie

@@ -39,7 +39,7 @@ use denote.Triple.Table.{entered, cited}
 use denote.Triple.Walked.{says, Stays, stay-none-ref, stay-none, walkOf, AllGo, goes-none, goes-none-ref, Walks, ends-at, walked, walk-meets}
 use denote.Triple.Clauses.{ensured, lasts}
 use denote.Exit.{yes}
-use Rattle.hid.specs.Asking.{winkingOf}
+use Rattle.hid.specs.Questions.{winkingOf}
 use Rattle.hid.specs.declared.MainHid.{MainHid}
 use Rattle.hid.proofs.MainHid as MainHid-T
 use Rattle.hid.proofs.MainHid.Laws as MainHid-L

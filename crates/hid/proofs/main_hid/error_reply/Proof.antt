@@ -4,8 +4,8 @@ use borrow.Author.Needs.{needs}
 use Rattle.hid.proofs.main_hid.error_reply.Statement.{statement}
 use Rattle.hid.proofs.main_hid.error_reply.Tie as tie
 
-slice-write-reply : tie.Need-slice-write-reply
-slice-write-reply c = search needs
+error-message-requires : tie.Need-error-message-requires
+error-message-requires c κs = search needs
 
 with-wink-requires : tie.Need-with-wink-requires
 with-wink-requires c κs = search needs
@@ -17,4 +17,4 @@ returns : tie.Need-returns
 returns c = search outers
 
 pub error-reply-spec : {M : Type 1} → statement M
-error-reply-spec = tie.close (tie.spec slice-write-reply with-wink-requires same-length returns)
+error-reply-spec = tie.close (tie.spec error-message-requires with-wink-requires same-length returns)

@@ -1,5 +1,5 @@
 -- `finish` meets its contract. Assumes nothing.
-use Rattle.hid.proofs.Finishing.{outers}
+use Rattle.hid.proofs.Finishing.{outers, asks-message}
 use borrow.Author.Needs.{needs}
 use Rattle.hid.proofs.main_hid.finish.Statement.{statement}
 use Rattle.hid.proofs.main_hid.finish.Tie as tie
@@ -8,7 +8,11 @@ enum-known-answer : tie.Need-enum-known-answer
 enum-known-answer c = search needs
 
 on-request-requires : tie.Need-on-request-requires
-on-request-requires c κs = search needs
+on-request-requires c κs =
+    let at-answer = c .before .before in
+    let start = at-answer .before .before .before in
+    let a = start .args in
+    asks-message (a .hid) (a .answer) (a .reply .now) {cid = at-answer .answer .given .0 .0} {cmd = at-answer .answer .given .0 .1 .0} {len = at-answer .answer .given .0 .1 .1 .0} (start .pre) (search needs)
 
 enum-told : tie.Need-enum-told
 enum-told c = search needs

@@ -3,11 +3,11 @@ use Prim.Native.Nat.{ℕ, _+_}
 use native.Mathlib.Omega.{arith}
 use mathlib.Core.Path.{_≡_, refl, sym, ap, _∙_}
 use mathlib.Core.List.{_++_}
-use lib.ListN.{length, take}
+use lib.ListN.{length, take, drop}
 use Rattle.collect.specs.Adding.{front, added, addOf}
 use Rattle.collect.specs.declared.Added.the-variants.{Waiting}
 use Rattle.collect.proofs.Adding.{put-front, add-waits}
-use Rattle.hid.proofs.Receiving.{collected-waiting}
+use Rattle.receive.proofs.Receiving.{collected-waiting}
 use borrow.Author.Needs.{needs}
 use Rattle.hid.proofs.shortcut.append_block.Statement.{statement}
 use Rattle.hid.proofs.shortcut.append_block.Tie as tie
@@ -35,7 +35,8 @@ returns c =
     let m = start .args .message .now in
     let field = start .args .«data» .now in
     let size : length field ≡ 59 = start .pre .1 .0 in
-    let put : at-put .put-block .last .0 ≡ front (take (a .taken) m ++ field) m = at-put .put-block .ensures ∙ put-front m field (a .taken) (omega (arith, start .pre .0 .taken, start .pre .0 .room)) in
+    let there : at-put .put-block .last .0 ≡ take (a .taken) m ++ (field ++ drop (a .taken + length field) m) = at-put .put-block .ensures in
+    let put : at-put .put-block .last .0 ≡ front (take (a .taken) m ++ field) m = there ∙ put-front m field (a .taken) (omega (arith, start .pre .0 .taken, start .pre .0 .room)) in
     let e : added (Waiting (a .taken + 59)) (at-put .put-block .last .0) ≡ addOf m (a .taken) (a .len) field =
     ap (added (Waiting (a .taken + 59))) put
     ∙ (ap (λ (n : ℕ). added (Waiting (a .taken + n)) (front (take (a .taken) m ++ field) m)) (sym size)

@@ -4,9 +4,6 @@ use Rattle.hid.specs.Soundness.{isHeld}
 use borrow.Author.Needs.{needs}
 use Rattle.hid.proofs.soundness.is_held.Statement.{statement}
 use Rattle.hid.proofs.soundness.is_held.Tie as tie
-use Rattle.hid.proofs.soundness.is_held.Reads as reads
-use Rattle.hid.proofs.soundness.is_held.Lts as lts
-use Rattle.hid.proofs.channels.is_allocated.Reads as is-allocated-reads
 
 is-allocated-requires : tie.Need-is-allocated-requires
 is-allocated-requires c κs = search needs

@@ -5,9 +5,6 @@ use Rattle.hid.proofs.Sound.{allocated-yes, allocated-no}
 use borrow.Author.Needs.{needs}
 use Rattle.hid.proofs.soundness.is_on_channel.Statement.{statement}
 use Rattle.hid.proofs.soundness.is_on_channel.Tie as tie
-use Rattle.hid.proofs.soundness.is_on_channel.Reads as reads
-use Rattle.hid.proofs.soundness.is_on_channel.Lts as lts
-use Rattle.hid.proofs.channels.is_allocated.Reads as is-allocated-reads
 
 is-allocated-requires : tie.Need-is-allocated-requires
 is-allocated-requires c κs = search needs

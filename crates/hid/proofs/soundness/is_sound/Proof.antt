@@ -5,10 +5,6 @@ use Rattle.hid.proofs.Sound.{timely-yes, timely-no}
 use borrow.Author.Needs.{needs}
 use Rattle.hid.proofs.soundness.is_sound.Statement.{statement}
 use Rattle.hid.proofs.soundness.is_sound.Tie as tie
-use Rattle.hid.proofs.soundness.is_sound.Reads as reads
-use Rattle.hid.proofs.soundness.is_sound.Lts as lts
-use Rattle.hid.proofs.soundness.is_at_rest.Reads as is-at-rest-reads
-use Rattle.hid.proofs.soundness.is_timely.Reads as is-timely-reads
 
 returns : tie.Need-returns
 unfolding isSound
@@ -25,8 +21,8 @@ returns-3 c = search (tests, timely-yes, timely-no) depth 12
 is-timely-requires : tie.Need-is-timely-requires
 is-timely-requires c κs = search needs
 
-is-at-rest-requires : tie.Need-is-at-rest-requires
-is-at-rest-requires c κs = search needs
+transacts-requires : tie.Need-transacts-requires
+transacts-requires c κs = search needs
 
 returns-4 : tie.Need-returns-4
 unfolding isSound
@@ -44,6 +40,6 @@ is-sound-spec =
     returns-2
     returns-3
     is-timely-requires
-    is-at-rest-requires
+    transacts-requires
     returns-4
     returns-5)

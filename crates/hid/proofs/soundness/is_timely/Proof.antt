@@ -4,9 +4,6 @@ use Rattle.hid.specs.Soundness.{isTimely}
 use borrow.Author.Needs.{needs}
 use Rattle.hid.proofs.soundness.is_timely.Statement.{statement}
 use Rattle.hid.proofs.soundness.is_timely.Tie as tie
-use Rattle.hid.proofs.soundness.is_timely.Reads as reads
-use Rattle.hid.proofs.soundness.is_timely.Lts as lts
-use Rattle.hid.proofs.soundness.is_held.Reads as is-held-reads
 
 add-if1 : tie.Need-add-if1
 add-if1 c = search needs

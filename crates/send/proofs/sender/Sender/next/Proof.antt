@@ -182,9 +182,9 @@ module _ {M : Type 1} (𝓤 : URA M) (H : Heap 𝓤) (A : Atoms 𝓤) (W : Given
         let wt : Holds (hasTy (T′.mir (named 1)) mach) × WT mach = LL.lawful D L 𝓤 H A W .typed h (mach ∷ []) was .0 in
         -- [the sender's cell; what a Sender owns; the open borrow; obs; auth; the other tokens; the packet's borrow; _9; …; _8; …; _7; …; _6; …; _5; …; _4; …; _3; …; _2; …; _1; …; room for _0; …]
         assigns ! (of-opd ! (load ! (from ! (hop ! (look ! 23 refl) (fld ! refl (stop !)))) (look-in ! 0 (sub ! 0 refl (whole !))))) (from ! (stop !)) (init ! 17 refl (tt, wt .1 .0)) $
-        assigns ! (of-opd ! (load ! (from ! (hop ! (look ! 23 refl) (fld ! refl (stop !)))) (look-in ! 0 (sub ! 1 refl (whole !))))) (from ! (stop !)) (init ! 15 refl (tt, wt .1 .1 .0)) $
-        assigns ! (of-opd ! (load ! (from ! (hop ! (look ! 23 refl) (fld ! refl (stop !)))) (look-in ! 0 (sub ! 2 refl (whole !))))) (from ! (stop !)) (init ! 13 refl (tt, wt .1 .1 .1 .0)) $
-        assigns ! (of-opd ! (load ! (from ! (hop ! (look ! 23 refl) (fld ! refl (stop !)))) (look-in ! 0 (sub ! 3 refl (whole !))))) (from ! (stop !)) (init ! 11 refl (tt, wt .1 .1 .1 .1 .0)) $
+        assigns ! (of-opd ! (load ! (from ! (hop ! (look ! 23 refl) (fld ! {d = 16} refl (stop !)))) (look-in ! 0 (sub ! 1 {d = 16} refl (whole !))))) (from ! (stop !)) (init ! 15 refl (tt, wt .1 .1 .0)) $
+        assigns ! (of-opd ! (load ! (from ! (hop ! (look ! 23 refl) (fld ! {d = 20} refl (stop !)))) (look-in ! 0 (sub ! 2 {d = 20} refl (whole !))))) (from ! (stop !)) (init ! 13 refl (tt, wt .1 .1 .1 .0)) $
+        assigns ! (of-opd ! (load ! (from ! (hop ! (look ! 23 refl) (fld ! {d = 24} refl (stop !)))) (look-in ! 0 (sub ! 3 {d = 24} refl (whole !))))) (from ! (stop !)) (init ! 11 refl (tt, wt .1 .1 .1 .1 .0)) $
         -- the packet's borrow is put together again, for the callee
         assigns ! (addr ! (from ! (fld ! refl (hop ! (look-in ! 21 (sub ! 0 refl (whole !))) (stop !))))) (from ! (stop !)) (init ! 9 refl (tt, tt)) $
         assigns ! (agg ! (and-then ! (load ! (from ! (stop !)) (look ! 9 refl)) (and-then ! (load ! (from ! (fld ! refl (stop !))) (look-in ! 21 (sub ! 1 refl (whole !)))) (no-more !)))) (from ! (stop !)) (init ! 7 refl (tt, (tt, (record { fits = room .0 }, tt)))) $
@@ -201,7 +201,7 @@ module _ {M : Type 1} (𝓤 : URA M) (H : Heap 𝓤) (A : Atoms 𝓤) (W : Given
         let next-fits : r .next < 2 ^ 64 = is .1 .1 .1 .0 .1 in
         -- [the result; the tokens; the packet's last list; what a Sender owns; the sender's cell; the open borrow; obs; auth; _9; …]
         land ! (from ! (stop !)) (init ! 20 refl (LL.lawful Mv.the-type Mv′.the-laws 𝓤 H A W .typed r _ is .0)) $ rewrite ! 20 (λ (w : Val). ‵ (fat fullShare Mv′.mir l₃ 0 w)) (ap only (Mv′.lowers .val-is r (u ∷ []) is)) refl $
-        assigns ! (of-opd ! (load ! (from ! (fld ! refl (stop !))) (look-in ! 20 (sub ! 1 refl (whole !))))) (from ! (hop ! (look ! 24 refl) (fld ! refl (stop !)))) (store-in ! 4 (sub ! 3 refl (whole !)) (tt, record { fits = next-fits })) $
+        assigns ! (of-opd ! (load ! (from ! (fld ! refl (stop !))) (look-in ! 20 (sub ! 1 refl (whole !))))) (from ! (hop ! (look ! 24 refl) (fld ! {d = 24} refl (stop !)))) (store-in ! 4 (sub ! 3 {d = 24} refl (whole !)) (tt, record { fits = next-fits })) $
         assigns ! (of-opd ! (load ! (from ! (fld ! refl (stop !))) (look-in ! 20 (sub ! 0 refl (whole !))))) (from ! (stop !)) (init ! 26 refl (EL.lawful N.the-type N′.the-laws 𝓤 H A W tt .typed (r .answer) _ is-answer .0)) $
         -- the sender is put together again, at its new place, and its borrow is closed
         drop ! $ move ! (2 ∷ []) $ use1 W (‵ (R .own (placed (r .next)) (T′.lowered (placed (r .next)) ∷ []))) (again (r .next) next-fits) $

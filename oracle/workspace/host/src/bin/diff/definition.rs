@@ -5,7 +5,7 @@ use crate::ours::{CtapHid, ECHO, MESSAGE, MessageAssembler, NOTHING, Outcome, RE
 pub const BROADCAST: u32 = 0xffff_ffff;
 
 /// Faults of a step, and of the functions beside it.
-pub const FAULTS: [&str; 29] = [
+pub const FAULTS: [&str; 31] = [
     "first-number-1",
     "timer-99",
     "timer-101",
@@ -26,6 +26,7 @@ pub const FAULTS: [&str; 29] = [
     "last-byte-not-written",
     "reply-buffer-cleared",
     "57-begins-a-transaction",
+    "owed-byte-lost",
     "sender-number-1",
     "sender-stale-bytes",
     "reader-length-swapped",
@@ -33,6 +34,7 @@ pub const FAULTS: [&str; 29] = [
     "host-number-1",
     "host-any-channel",
     "host-spare-bytes-written",
+    "host-owed-byte-lost",
     "init-channel-swapped",
     "init-cbor-lost",
 ];

@@ -12,7 +12,7 @@ pub fn bench(driver: &Driver, lines: u64) -> Result<()> {
         max: 7609,
         allocated: 0,
         slack: 0,
-        fill: 0,
+        scribble: 0,
     };
     let mut run = Run::new(driver, &setup, &mut random);
     let mut out = BufWriter::new(stdout().lock());

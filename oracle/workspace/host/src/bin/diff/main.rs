@@ -141,7 +141,7 @@ impl Driver {
                 max: 117,
                 allocated,
                 slack: 3,
-                fill: 0xee,
+                scribble: 0xee,
             };
             // the longest alone: each shorter one is the front of one of them
             if depth == 0 {

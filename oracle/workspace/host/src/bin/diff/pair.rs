@@ -23,8 +23,8 @@ pub struct Setup {
     pub allocated: u32,
     /// Bytes that the message buffer has beyond the maximum, and the reply buffer beyond 17.
     pub slack: usize,
-    /// What the buffers hold at first.
-    pub fill: u8,
+    /// Tells this run's scribbles from another's.
+    pub scribble: u8,
 }
 
 #[derive(Clone)]
@@ -45,9 +45,8 @@ struct Lent {
 const FENCE: usize = 64;
 
 impl Lent {
-    fn new(len: usize, fill: u8) -> Self {
-        let mut bytes = vec![0xa5; len + 2 * FENCE];
-        bytes[FENCE..FENCE + len].fill(fill);
+    fn new(len: usize) -> Self {
+        let bytes = vec![0xa5; len + 2 * FENCE];
         Lent { bytes, len }
     }
 
@@ -66,6 +65,28 @@ impl Lent {
             self.part()[at..end].copy_from_slice(&data[..end - at]);
         }
     }
+
+    /// As a caller may between two calls: other bytes behind those that it owes.
+    fn scribble(&mut self, owed: usize, first: u8) {
+        let free = &mut self.part()[owed..];
+        free.copy_from_slice(&COUNTING[first as usize..][..free.len()]);
+    }
+}
+
+/// What is scribbled: one up from byte to byte.
+static COUNTING: [u8; 8192] = {
+    let mut bytes = [0; 8192];
+    let mut at = 0;
+    while at < bytes.len() {
+        bytes[at] = at as u8;
+        at += 1;
+    }
+    bytes
+};
+
+/// The first byte of the scribble after one.
+fn next_scribble(first: u8) -> u8 {
+    first.wrapping_add(0x3b)
 }
 
 /// Our two machines, the transport alone and the device, each with its own buffers.
@@ -155,6 +176,7 @@ pub struct Pair {
     message: Lent,
     inner_reply: Lent,
     outer_reply: Lent,
+    scribble: u8,
     fault: &'static str,
     /// The answers alone are compared, and neither states nor buffers.
     answers_only: bool,
@@ -197,8 +219,8 @@ impl Pair {
         assert_eq!(refusal, 0);
         our_inner.allocated = setup.allocated;
         our_outer.hid.allocated = setup.allocated;
-        let message = || Lent::new(setup.max + setup.slack, setup.fill);
-        let reply = || Lent::new(17 + setup.slack, setup.fill);
+        let message = || Lent::new(setup.max + setup.slack);
+        let reply = || Lent::new(17 + setup.slack);
         let definition = |fault| Definition::new(setup.max, U2F, setup.allocated, fault);
         Pair {
             env,
@@ -218,6 +240,7 @@ impl Pair {
             message: message(),
             inner_reply: reply(),
             outer_reply: reply(),
+            scribble: setup.scribble,
             fault,
             answers_only,
             answers: answers.clone(),
@@ -236,8 +259,36 @@ impl Pair {
         (kind == REPLY && cmd == 63).then(|| self.ours.outer_reply.front(1)[0])
     }
 
+    /// The bytes taken are owed while a transaction is on; past them, and in the short buffers, anything may stand.
+    fn scribble(&mut self, time: u64) {
+        let on = &self.definition.hid.assembler;
+        let live = on.len > 0 && time < on.deadline;
+        let mut owed = if live { on.taken as usize } else { 0 };
+        if self.fault == "owed-byte-lost" {
+            owed = owed.saturating_sub(1);
+        }
+        self.scribble = next_scribble(self.scribble);
+        let ours = &mut self.ours;
+        for message in [
+            &mut self.message,
+            &mut ours.inner_message,
+            &mut ours.outer_message,
+        ] {
+            message.scribble(owed, self.scribble);
+        }
+        for reply in [
+            &mut self.inner_reply,
+            &mut self.outer_reply,
+            &mut ours.inner_reply,
+            &mut ours.outer_reply,
+        ] {
+            reply.scribble(0, self.scribble);
+        }
+    }
+
     pub fn step(&mut self, step: &Step) -> Result<Outcome, String> {
         let Step { time, packet, .. } = step;
+        self.scribble(*time);
         read(packet, self.fault)?;
 
         // OpenSK
@@ -385,7 +436,8 @@ impl Pair {
             let our_transaction =
                 (a.len > 0).then_some((a.cid, a.cmd, a.seq, a.taken, a.len, a.deadline));
             same!(format!("{name}: transaction"), transaction, our_transaction);
-            if let Some(x) = peek.transaction {
+            // of one that is over, ours no longer has them
+            if let Some(x) = peek.transaction.filter(|x| x.timer.0 > Some(time)) {
                 let message = match name {
                     "transport" => &self.ours.inner_message,
                     _ => &self.ours.outer_message,
@@ -597,6 +649,7 @@ struct Host<'a> {
     collection: ours::Collection,
     buffer: Lent,
     wanted: Lent,
+    scribble: u8,
     fault: &'a str,
 }
 
@@ -605,19 +658,34 @@ impl Host<'_> {
         Host {
             cid,
             collection: Default::default(),
-            buffer: Lent::new(space, 0x5a),
-            wanted: Lent::new(space, 0x5a),
+            buffer: Lent::new(space),
+            wanted: Lent::new(space),
+            scribble: 0,
             fault,
         }
     }
 
-    /// A packet, the outcome that it must have, and the collection that it must leave.
+    /// The bytes taken are owed while a reply is begun; past them anything may stand.
+    fn scribble(&mut self) {
+        let mut owed = self.collection.taken as usize;
+        if self.fault == "host-owed-byte-lost" {
+            owed = owed.saturating_sub(1);
+        }
+        self.scribble = next_scribble(self.scribble);
+        self.buffer.scribble(owed, self.scribble);
+        self.wanted.scribble(owed, self.scribble);
+    }
+
+    /// A packet, the data that it must add, the outcome that it must have, and the collection that it must leave.
     fn read(
         &mut self,
         packet: &HidPacket,
+        data: &[u8],
         wanted: Outcome,
         left: ours::Collection,
     ) -> Result<(), String> {
+        self.scribble();
+        self.wanted.write(self.collection.taken as usize, data);
         let mut packet = *packet;
         let mut cid = self.cid;
         match self.fault {
@@ -639,7 +707,7 @@ impl Host<'_> {
 
     /// A packet that leaves the collection as it is.
     fn pass(&mut self, packet: &HidPacket, wanted: Outcome) -> Result<(), String> {
-        self.read(packet, wanted, self.collection)
+        self.read(packet, &[], wanted, self.collection)
     }
 }
 
@@ -702,7 +770,6 @@ fn collect(
         }
         let data = &packet[if index == 0 { 7 } else { 5 }..];
         let data = &data[..data.len().min(payload.len() - taken)];
-        host.wanted.write(taken, data);
         taken += data.len();
         if taken < payload.len() {
             let left = ours::Collection {
@@ -711,10 +778,10 @@ fn collect(
                 cmd,
                 seq: index as u8,
             };
-            host.read(packet, heard(ours::WAITING, 0, 0), left)?;
+            host.read(packet, data, heard(ours::WAITING, 0, 0), left)?;
         } else {
             let wanted = heard(ours::COLLECTED, cmd, payload.len());
-            host.read(packet, wanted, Default::default())?;
+            host.read(packet, data, wanted, Default::default())?;
             same!("host: message", payload, host.buffer.front(payload.len()));
         }
     }

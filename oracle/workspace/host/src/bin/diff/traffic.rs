@@ -72,7 +72,7 @@ pub fn setup(random: &mut Random) -> Setup {
             0xffff_fffe,
         ]),
         slack: random.of(&[0, 0, 1, 47]),
-        fill: random.next() as u8,
+        scribble: random.next() as u8,
     }
 }
 

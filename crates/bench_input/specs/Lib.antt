@@ -1,0 +1,4 @@
+pub mod Pieces
+pub mod Hex
+pub mod Lines
+pub mod Examples

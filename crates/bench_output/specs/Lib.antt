@@ -1,0 +1,4 @@
+pub mod Placing
+pub mod Packets
+pub mod Printing
+pub mod Examples

@@ -1,0 +1,4 @@
+pub mod Valid
+pub mod Inits
+pub mod Locks
+pub mod Unique

@@ -1,0 +1,31 @@
+-- Refusals: a call that is wrong gets a number, and alters nothing. They are the scope's, not the standard's: its table, in its order. Assumes nothing.
+use Prim.Native.Nat.{ℕ}
+
+pub data Refusal : Type 0 where
+  PacketSize ShortBuffer Unsound Time Maximum Index LongPayload LongPing Sequence LongReply NotInit Command : Refusal
+
+abbrev pub refusalNumber : Refusal → ℕ
+-- the packet slice, read or written, isn't 64 bytes
+refusalNumber PacketSize = 1
+-- a device buffer is shorter than is asked
+refusalNumber ShortBuffer = 2
+-- the state, or a host's collection, is not sound
+refusalNumber Unsound = 3
+-- the time is above 2^48 - 1 or before the last time
+refusalNumber Time = 4
+-- set-up with a maximum above 7,609
+refusalNumber Maximum = 5
+-- a packet index at or past the packet count
+refusalNumber Index = 6
+-- a payload to be split has over 7,609 bytes
+refusalNumber LongPayload = 7
+-- a PING to be echoed has over 7,609 bytes
+refusalNumber LongPing = 8
+-- host: wrong number, or a first packet inside a reply
+refusalNumber Sequence = 9
+-- host: a KEEPALIVE's declared length isn't 1, or another command's is above 7,609 or the host buffer
+refusalNumber LongReply = 10
+-- host: not an INIT reply of exactly 17 bytes
+refusalNumber NotInit = 11
+-- a command above 127 to be sent
+refusalNumber Command = 12

@@ -1,0 +1,26 @@
+-- Whether a lock, or a wink, runs at a time. Assumes nothing.
+use Prim.Native.Nat.{ℕ}
+use mathlib.Core.List.{[], _∷_}
+use mathlib.Core.Bool.{not}
+use lib.Dec.{ltb}
+use Rattle.ctaphid.specs.Choice.{pick, refusing}
+use Rattle.hid.specs.declared.CtapHid.{CtapHid}
+use Rattle.hid.specs.declared.MainHid.{MainHid}
+use Rattle.hid.specs.declared.Running.{Running}
+use Rattle.hid.specs.declared.Running.the-variants.{Yes, No, Refused}
+use Rattle.hid.specs.Soundness.{isSound}
+use Rattle.hid.specs.Refusals.{untimely}
+
+-- what ends at the time `until` runs before it. Refusal 4
+abbrev pub runningAt : (last time until : ℕ) → Running
+runningAt last time until = refusing Refused (untimely last time) (pick (ltb time until) Yes No)
+
+-- refusals 3 and 4, and no other
+unfoldable pub runningOf : CtapHid → (wink time until : ℕ) → Running
+runningOf s wink time until = refusing Refused ((not (isSound s wink), 3) ∷ []) (runningAt (s .last) time until)
+
+abbrev pub lockedOf : CtapHid → (time : ℕ) → Running
+lockedOf s time = runningOf s 0 time (s .lock)
+
+abbrev pub winkingOf : MainHid → (time : ℕ) → Running
+winkingOf o time = runningOf (o .hid) (o .wink) time (o .wink)

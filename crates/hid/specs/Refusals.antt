@@ -1,0 +1,30 @@
+-- Why a step is refused. Assumes nothing.
+use Prim.Native.Nat.{ℕ}
+use mathlib.Core.List.{List, [], _∷_, _++_}
+use mathlib.Core.Bool.{Bool, not}
+use lib.Dec.{ltb, eqb}
+use Rattle.ctaphid.specs.Choice.{refusing}
+use Rattle.ctaphid.specs.Limits.{packetSize, shortReply, lastTime}
+use Rattle.hid.specs.declared.CtapHid.{CtapHid}
+use Rattle.hid.specs.Soundness.{isSound}
+
+-- 4: the time is above 2^48 - 1, or before the last
+abbrev pub untimely : (last time : ℕ) → List (Bool × ℕ)
+untimely last time = (ltb lastTime time, 4) ∷ (ltb time last, 4) ∷ []
+
+-- a step's refusals, in the scope's order: 1, the packet isn't 64 bytes; 2, a buffer is short; 3, the state is not sound; 4. Each of the last three is the
+-- length of what was lent
+abbrev pub refusals : CtapHid → (wink time packet message short : ℕ) → List (Bool × ℕ)
+refusals s wink time packet message short =
+    (not (eqb packet packetSize), 1)
+    ∷ (ltb message (s .max), 2)
+    ∷ (ltb short shortReply, 2)
+    ∷ (not (isSound s wink), 3)
+    ∷ untimely (s .last) time
+
+-- the first that refuses, or 0
+abbrev pub refusedTime : (last time : ℕ) → ℕ
+refusedTime last time = refusing (λ number. number) (untimely last time) 0
+
+unfoldable pub refusalOf : CtapHid → (wink time packet message short : ℕ) → ℕ
+refusalOf s wink time packet message short = refusing (λ number. number) (refusals s wink time packet message short) 0

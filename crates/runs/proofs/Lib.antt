@@ -1,0 +1,10 @@
+pub mod Refines
+pub mod Following
+pub mod Runs
+pub mod Shared
+pub mod Callers
+pub mod Instances
+pub mod HostWire
+pub mod HostRefines
+pub mod HostRuns
+pub mod HostCallers

@@ -1,0 +1,7 @@
+pub mod Steps
+pub mod Lending
+pub mod Share
+pub mod Callers
+pub mod HostSteps
+pub mod HostRuns
+pub mod HostCallers
