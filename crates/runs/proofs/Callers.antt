@@ -13,10 +13,10 @@ use Rattle.ctaphid.specs.Transport.{Settings, Event}
 use Rattle.ctaphid.specs.Demands.{Taken, after}
 use Rattle.hid.specs.declared.CtapHid.{CtapHid}
 use Rattle.hid.specs.Soundness.{Sound}
-use Rattle.runs.specs.Steps.{Buffers, Roomy}
+use Rattle.runs.specs.Steps.{Buffers, buffers, Roomy}
 use Rattle.runs.specs.Lending.{On, Lends}
 use Rattle.runs.specs.Share.{Held, Caller, code, LendsWell}
-use Rattle.runs.specs.Callers.{unlessFirst, untouched, owed, overwritten, scribbling, UntouchedGivesShare, ScribblingGivesShare}
+use Rattle.runs.specs.Callers.{unlessFirst, untouched, owed, overwritten, scribbling, UntouchedGivesShare, FixedGivesShare, ScribblingGivesShare}
 use Rattle.runs.proofs.Refines.{leaves}
 use Rattle.runs.proofs.Shared.{Stands, LentSoFar, comes, stands, code-gives-share}
 
@@ -55,15 +55,20 @@ pub careful-lends-well : (lent : Caller) → Careful lent → LendsWell lent
 careful-lends-well lent careful set most past e taken = careful (after (code lent) set past) e (both lent careful set most past (taken .2) .1)
 
 -- ---- lent back untouched
-pub untouched-careful : (first : (maximum : ℕ) → Buffers) → ((max : ℕ) → (max ≤ length (first max .message)) × (17 ≤ length (first max .short))) → Careful (untouched first)
+pub untouched-careful : (first : (maximum : ℕ) → Buffers) → ((max : ℕ) → max ≤ 7609 → (max ≤ length (first max .message)) × (17 ≤ length (first max .short))) → Careful (untouched first)
 untouched-careful first long h e ready = by-past (h .past) (ready .left)
   where
     by-past : (past : List Event) → Left h past → Lends (h .hid) (e .time) (h .left .message) (unlessFirst past (first (h .hid .max)) (h .left))
-    by-past [] none = record { roomy = record { message = long (h .hid .max) .0; short = long (h .hid .max) .1 }; kept = λ on. absurd (on .begun none) }
+    by-past [] none =
+        let there = long (h .hid .max) (ready .sound .maximum) in
+        record { roomy = record { message = there .0; short = there .1 }; kept = λ on. absurd (on .begun none) }
     by-past (f ∷ past) roomy = record { roomy = roomy; kept = λ on. refl }
 
 pub untouched-gives-share : UntouchedGivesShare
 untouched-gives-share first long = code-gives-share (untouched first) (careful-lends-well (untouched first) (untouched-careful first long))
+
+pub fixed-gives-share : FixedGivesShare
+fixed-gives-share m r long roomy = untouched-gives-share (λ max. buffers m r) (λ max most. (omega arith, roomy))
 
 -- ---- overwritten
 

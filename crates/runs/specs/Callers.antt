@@ -36,8 +36,12 @@ careless h e = overwritten 0 h
 
 abbrev pub UntouchedGivesShare : Type 0
 UntouchedGivesShare =
-    (first : (maximum : ℕ) → Buffers) → ((max : ℕ) → (max ≤ length (first max .message)) × (17 ≤ length (first max .short)))
+    (first : (maximum : ℕ) → Buffers) → ((max : ℕ) → max ≤ 7609 → (max ≤ length (first max .message)) × (17 ≤ length (first max .short)))
     → GivesShare (code (untouched first))
+
+-- one pair of buffers serves every maximum, if the message buffer is as long as the largest
+abbrev pub FixedGivesShare : Type 0
+FixedGivesShare = (m r : List ℕ) → 7609 ≤ length m → 17 ≤ length r → GivesShare (code (untouched (λ max. buffers m r)))
 
 abbrev pub ScribblingGivesShare : Type 0
 ScribblingGivesShare = GivesShare (code scribbling)
