@@ -77,8 +77,9 @@ fn main() {
     let [nothing, handed, echoes, replies] = driver.kinds;
     println!(
         "{} U2F, seed {seed}: {messages} messages split and read, {sequences} sequences ({exhaustive} steps), \
-         {steps} random steps: no difference",
-        if U2F { "with" } else { "without" }
+         {} random steps: no difference",
+        if U2F { "with" } else { "without" },
+        driver.done - exhaustive
     );
     println!(
         "  answers: {nothing} nothing, {handed} handed over, {echoes} echoes, {replies} other replies; \
