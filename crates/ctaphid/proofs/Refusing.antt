@@ -6,6 +6,7 @@ use mathlib.Core.Bool.{Bool, true, false, not, cond, true≢false}
 use borrow.Author.Tests.{eqb-false}
 use lib.Dec.{eqb}
 use Rattle.ctaphid.specs.Choice.{pick, refusing}
+use Rattle.ctaphid.proofs.Tests.{pick-both}
 
 -- the first number, or 0
 abbrev pub firstOf : List (Bool × ℕ) → ℕ
@@ -45,6 +46,11 @@ pub none-refuse : {A : Type 0} (f : ℕ → A) (tests : List (Bool × ℕ)) (a :
 unfolding pick
 none-refuse f [] a p = refl
 none-refuse f ((test, number) ∷ rest) a p = simp (p .0) (none-refuse f rest a (p .1))
+
+-- what holds however it ends
+pub either-way : {A : Type 0} (P : A → Type 0) (f : ℕ → A) (tests : List (Bool × ℕ)) (a : A) → ((n : ℕ) → P (f n)) → P a → P (refusing f tests a)
+either-way P f [] a refused p = p
+either-way P f ((test, number) ∷ rest) a refused p = pick-both P test (f number) _ (refused number) (either-way P f rest a refused p)
 
 -- a test that is turned round
 pub not-true : (b : Bool) → not b ≡ false → b ≡ true

@@ -1,4 +1,5 @@
 pub mod Refines
+pub mod Disabled
 pub mod Following
 pub mod Runs
 pub mod Shared

@@ -2,7 +2,7 @@
 use Prim.Native.Nat.{ℕ, _≤_}
 use mathlib.Core.Path.{_≡_}
 use mathlib.Core.List.{List}
-use mathlib.Core.Bool.{Bool}
+use mathlib.Core.Bool.{Bool, true}
 use lib.ListN.{length}
 use Rattle.ctaphid.specs.Packets.{Bytes}
 use Rattle.ctaphid.specs.Transport.{Transport, Event, Next, step}
@@ -82,6 +82,13 @@ abbrev pub MainSoundStays : Type 0
 MainSoundStays =
     (o : MainHid) (e : Event) (b : Buffers) → Sound (o .hid) (o .wink) → Comes (o .hid .last) e → Roomy (o .hid) b
     → Sound (mainOnEvent o e b .stepped .hid .hid) (mainOnEvent o e b .stepped .hid .wink)
+
+-- a disabled step leaves the message buffer as it came, whatever state, time, packet and buffers: what a caller has there stays
+abbrev pub DisabledKeeps : Type 0
+DisabledKeeps = (s : CtapHid) (time : ℕ) (p m r : List ℕ) → stepOf s time true p m r .message ≡ m
+
+abbrev pub MainDisabledKeeps : Type 0
+MainDisabledKeeps = (o : MainHid) (time : ℕ) (p m r : List ℕ) → mainStepOf o time true p m r .message ≡ m
 
 -- set-up is sound, whatever the maximum that isn't refused
 abbrev pub SetUpSound : Type 0
