@@ -1,17 +1,24 @@
 /*
  * Snjofrask: CTAPHID, FIDO messages over USB HID in packets of 64 bytes, for C11 and C++17.
+ * SPDX-License-Identifier: Apache-2.0
  *
- * Link target/staticlib/libsnjofrask.a, which `rt staticlib snjofrask` writes, for x86-64 with the System V calling
- * convention. It allocates nothing, keeps nothing between calls, and calls nothing outside.
+ * Link target/staticlib/libsnjofrask.a, which `rt staticlib snjofrask` writes. It is for x86-64 with the System V calling
+ * convention alone. It allocates nothing, keeps nothing between calls, and calls nothing outside.
+ * examples/firmware is a main loop over it, docs/RULES.md has all rules.
  *
  * What is proved holds for callers that keep to this:
  *  - Every pointer is valid for the count after it, or for its struct, is aligned as its type, and is not null, also
  *    where the count is 0.
  *  - What a call may write (a pointer that is not const) overlaps nothing else that is lent to the same call.
- *  - Up to 128 bytes below the stack pointer are used (the red zone). An interrupt handler on the same stack has to
- *    skip them, or run on a stack of its own.
- *  - A struct comes from the _new entry or from an earlier call, or is all zeros for a collection. Any other contents
- *    do no harm: what makes no sense is refused with 3.
+ *  - A call takes up to SNJOFRASK_STACK_SIZE bytes of stack. Of these up to 128 may lie below the stack pointer (the red
+ *    zone): an interrupt handler on the same stack has to skip them, or run on a stack of its own.
+ *  - Vector registers (xmm0 to xmm15) are used, and left with other contents, as the calling convention allows. An
+ *    interrupt handler or a kernel that calls in has to save them as it saves the others.
+ *
+ * A state (a transport or a device) comes from its _new entry and is altered by calls alone. Whatever else stands there
+ * does no harm: a step refuses it with 2, where its max is more than the message buffer has, or with 3, where it makes no
+ * sense; contents that happen to make sense are taken for a state. All zeros make sense: a device with a maximum of 0,
+ * without U2F, which tells every INIT that it is too long. A collection that is all zeros is a fresh one.
  *
  * Threads: there are no globals. Calls over different structs and buffers may run at once; a struct and its buffers
  * serve one call at a time.
@@ -23,8 +30,22 @@
 #ifndef SNJOFRASK_H
 #define SNJOFRASK_H
 
+#ifdef __cplusplus
+#if __cplusplus < 201703L
+#error "snjofrask.h is for C++17 or later: compile with -std=c++17"
+#endif
+#elif !defined(__STDC_VERSION__) || __STDC_VERSION__ < 201112L
+#error "snjofrask.h is for C11 or later: compile with -std=c11"
+#endif
+#if !defined(__x86_64__) || defined(__ILP32__) || defined(_WIN32) || defined(__CYGWIN__)
+#error "libsnjofrask.a is for x86-64 with the System V calling convention and 64-bit pointers alone"
+#endif
+
 #include <stddef.h>
 #include <stdint.h>
+
+/* whatever convention the caller is compiled for (-mabi=ms) */
+#define SNJOFRASK_ENTRY __attribute__((sysv_abi))
 
 #ifdef __cplusplus
 #define SNJOFRASK_ASSERT(test) static_assert(test, #test)
@@ -35,6 +56,15 @@ extern "C" {
 
 /* ---- numbers */
 
+/* Of the library: header and archive belong together. */
+#define SNJOFRASK_VERSION "0.1.0"
+#define SNJOFRASK_VERSION_MAJOR 0
+#define SNJOFRASK_VERSION_MINOR 1
+#define SNJOFRASK_VERSION_PATCH 0
+
+/* Bytes of stack that a call takes at most, its return address and the red zone included. */
+#define SNJOFRASK_STACK_SIZE 504
+
 /* Limits: bytes and milliseconds. */
 #define SNJOFRASK_PACKET_SIZE 64
 #define SNJOFRASK_LARGEST_PAYLOAD 7609
@@ -44,6 +74,13 @@ extern "C" {
 
 /* The short reply buffer has at least this many bytes, and the reply to INIT exactly so many. */
 #define SNJOFRASK_SHORT_REPLY_SIZE 17
+
+/* What the reply to INIT says before the capabilities: the version of CTAPHID, and of the device. All four are fixed, as in
+   OpenSK, and have nothing to do with the library's version. */
+#define SNJOFRASK_INIT_PROTOCOL 2
+#define SNJOFRASK_INIT_MAJOR 1
+#define SNJOFRASK_INIT_MINOR 0
+#define SNJOFRASK_INIT_BUILD 0
 
 /* The channel on which a host asks for one of its own. */
 #define SNJOFRASK_CHANNEL_BROADCAST 0xFFFFFFFF
@@ -81,7 +118,7 @@ extern "C" {
 #define SNJOFRASK_REFUSAL_PACKET_SIZE 1      /* a packet, read or written, that isn't 64 bytes */
 #define SNJOFRASK_REFUSAL_SHORT_BUFFER 2     /* a message buffer below the maximum, or a reply buffer below 17 bytes */
 #define SNJOFRASK_REFUSAL_UNSOUND 3          /* a state or a collection that makes no sense */
-#define SNJOFRASK_REFUSAL_TIME 4             /* a time past the last one, or before an earlier one */
+#define SNJOFRASK_REFUSAL_TIME 4             /* a time above SNJOFRASK_LAST_TIME_MS, or before that of an earlier step */
 #define SNJOFRASK_REFUSAL_MAXIMUM 5          /* set-up with a maximum above 7,609 */
 #define SNJOFRASK_REFUSAL_INDEX 6            /* a packet index at or past the count */
 #define SNJOFRASK_REFUSAL_LONG_PAYLOAD 7     /* a payload of over 7,609 bytes */
@@ -222,35 +259,50 @@ SNJOFRASK_ASSERT(offsetof(snjofrask_init_outcome, nonce) == 12);
  * its time is 0.
  * Returns 0, or refusal 5, which leaves hid as it came.
  */
+SNJOFRASK_ENTRY
 uint8_t snjofrask_device_new(snjofrask_device *hid, size_t max, uint8_t u2f);
 
 /*
  * A packet that came at a time. With disabled set, every packet on a valid channel, a broadcast INIT too, is told that
- * the device is busy.
+ * the device is busy, and message is never written.
  *
  * message has at least max bytes: a message is put together at its front. While one is on its way in (the assembler's
  * len is not 0, and time is before its deadline), the first bytes of message, as many as its taken says, are as the step
  * before left them. Nothing else is asked: past those bytes, and between messages all of it, the caller may write, and
  * message may be another buffer each time. reply has at least 17 bytes, and may be another each time. Kinds:
  *  - NOTHING;
- *  - ECHO, REPLY: send the packets of cid, cmd and the payload, by snjofrask_write_packet;
+ *  - ECHO, REPLY: send the packets of cid, cmd and the payload, by snjofrask_write_packet. The payload stands in message
+ *    or reply until the next step that is lent them, so send all packets first;
  *  - MESSAGE: MSG or CBOR for the caller to answer on the same channel with the same command, by
  *    snjofrask_split_message. Once the payload has been read, message is free, for the answer too;
  *  - REFUSED: by 1, 2, 3 or 4, in this order. hid, message and reply are as they came.
+ *
+ * While the caller works on a MESSAGE, the device knows of no request: it would take the next one. So the caller
+ *  - sends KEEPALIVE on the request's channel at least every 100 ms, and when the status changes:
+ *    snjofrask_write_packet(cid, SNJOFRASK_CMD_KEEPALIVE, &status, 1, 0, packet, 64);
+ *  - looks at each packet by snjofrask_read_packet: FIRST on the request's channel with command CANCEL ends the work. It
+ *    has no answer; the request does, with the status for that (CTAP2_ERR_KEEPALIVE_CANCEL, 0x2D, for CBOR);
+ *  - gives every other packet to a step with disabled set, and sends its reply;
+ *  - sends ERROR on the request's channel in place of an answer that it can't give, with one byte: one of the errors
+ *    above, or the standard's ERR_OTHER, 0x7F, which the device itself never sends.
  */
+SNJOFRASK_ENTRY
 snjofrask_outcome snjofrask_device_step(snjofrask_device *hid, uint64_t time, uint8_t disabled, const uint8_t *packet,
                                         size_t packet_len, uint8_t *message, size_t message_len, uint8_t *reply,
                                         size_t reply_len);
 
 /* Whether a wink runs at a time, which alters nothing: 0 for no, 1 for yes, or refusal 3 or 4. */
+SNJOFRASK_ENTRY
 uint8_t snjofrask_is_winking(const snjofrask_device *hid, uint64_t time);
 
 /* ---- a transport alone: a device without the wink, for a caller that handles WINK itself */
 
 /* As snjofrask_device_new. */
+SNJOFRASK_ENTRY
 uint8_t snjofrask_transport_new(snjofrask_transport *hid, size_t max, uint8_t u2f);
 
 /* As snjofrask_device_step, but WINK, and without U2F MSG too, come as MESSAGE. A PING is an ECHO here as well. */
+SNJOFRASK_ENTRY
 snjofrask_outcome snjofrask_transport_step(snjofrask_transport *hid, uint64_t time, uint8_t disabled,
                                            const uint8_t *packet, size_t packet_len, uint8_t *message,
                                            size_t message_len, uint8_t *reply, size_t reply_len);
@@ -259,20 +311,24 @@ snjofrask_outcome snjofrask_transport_step(snjofrask_transport *hid, uint64_t ti
  * Whether a lock runs at a time, which alters nothing: 0 for no, 1 for yes, or refusal 3 or 4.
  * For a device ask its hid.
  */
+SNJOFRASK_ENTRY
 uint8_t snjofrask_is_locked(const snjofrask_transport *hid, uint64_t time);
 
 /* ---- packets, for both ends */
 
 /* Reads one packet: FIRST, CONTINUATION, or REFUSED by 1. The command is as it stands in the packet, below 128. */
+SNJOFRASK_ENTRY
 snjofrask_outcome snjofrask_read_packet(const uint8_t *packet, size_t packet_len);
 
 /* How many packets a payload of len bytes takes: COUNT, from 1 to 129, or REFUSED by 7. */
+SNJOFRASK_ENTRY
 snjofrask_outcome snjofrask_packet_count(size_t len);
 
 /*
  * Writes packet number index, from 0 on, of a message: all 64 bytes.
  * Returns 0, or refusal 1, 12, 7 or 6, in this order, which leaves packet as it came.
  */
+SNJOFRASK_ENTRY
 uint8_t snjofrask_write_packet(uint32_t cid, uint8_t cmd, const uint8_t *payload, size_t payload_len, size_t index,
                                uint8_t *packet, size_t packet_len);
 
@@ -282,6 +338,7 @@ uint8_t snjofrask_write_packet(uint32_t cid, uint8_t cmd, const uint8_t *payload
  * refusal 6.
  * Returns 0, or refusal 1, 12 or 6, in this order, which leaves packet as it came.
  */
+SNJOFRASK_ENTRY
 uint8_t snjofrask_split_message(uint32_t cid, uint8_t cmd, const uint8_t *payload, size_t payload_len,
                                 uint8_t internal_error, size_t index, uint8_t *packet, size_t packet_len);
 
@@ -297,10 +354,12 @@ uint8_t snjofrask_split_message(uint32_t cid, uint8_t cmd, const uint8_t *payloa
  *  - REFUSED: by 1 or 3, and if it isn't ignored by 9 or 10. collection and buffer are as they came; to give a reply
  *    up, make the collection all zeros.
  */
+SNJOFRASK_ENTRY
 snjofrask_outcome snjofrask_host_read(snjofrask_collection *collection, uint32_t cid, const uint8_t *packet,
                                       size_t packet_len, uint8_t *buffer, size_t buffer_len);
 
 /* The fields of a reply to INIT, by its command and payload; refusal is 0, or 11. Whether the nonce is the one that was sent is for the caller to see. */
+SNJOFRASK_ENTRY
 snjofrask_init_outcome snjofrask_init_reply(uint8_t cmd, const uint8_t *payload, size_t payload_len);
 
 #ifdef __cplusplus

@@ -1,4 +1,4 @@
-/* Calls every entry of include/snjofrask.h, as C11 and as C++17, and holds what it answers, writes and leaves alone to the scope's numbers. */
+/* Calls every entry of include/snjofrask.h, as C11 and as C++17, and holds what it answers, writes and leaves alone to docs/RULES.md. */
 #include "snjofrask.h"
 #include <stdio.h>
 #include <string.h>
@@ -102,6 +102,8 @@ static void device_messages(snjofrask_device *device)
     put(SNJOFRASK_CHANNEL_BROADCAST, SNJOFRASK_CMD_INIT, 8, 0);
     CHECK(is(device_step(device, 10, 0), SNJOFRASK_KIND_REPLY, SNJOFRASK_CHANNEL_BROADCAST, SNJOFRASK_CMD_INIT, 17));
     CHECK(memcmp(reply, welcome, sizeof welcome) == 0);
+    CHECK(reply[12] == SNJOFRASK_INIT_PROTOCOL && reply[13] == SNJOFRASK_INIT_MAJOR);
+    CHECK(reply[14] == SNJOFRASK_INIT_MINOR && reply[15] == SNJOFRASK_INIT_BUILD);
     CHECK(device->hid.allocated == 1 && device->hid.last == 10);
 
     put(1, SNJOFRASK_CMD_PING, 58, 0);
@@ -167,6 +169,49 @@ static void device_refusals(snjofrask_device *device)
     CHECK(all_are(message, sizeof message, 0xEE) && all_are(reply, sizeof reply, 0xEE));
     CHECK(snjofrask_device_new(device, SNJOFRASK_LARGEST_PAYLOAD + 1, 1) == SNJOFRASK_REFUSAL_MAXIMUM);
     CHECK(memcmp(device, &before, sizeof before) == 0);
+}
+
+/* contents that no call of ours left there */
+static void device_of_others(void)
+{
+    snjofrask_device device;
+    snjofrask_device none;
+
+    memset(&device, 0xEE, sizeof device);
+    put(SNJOFRASK_CHANNEL_BROADCAST, SNJOFRASK_CMD_INIT, 8, 0);
+    CHECK(is_refused(device_step(&device, 0, 0), SNJOFRASK_REFUSAL_SHORT_BUFFER));
+    device.hid.max = SNJOFRASK_LARGEST_PAYLOAD;
+    CHECK(is_refused(device_step(&device, 0, 0), SNJOFRASK_REFUSAL_UNSOUND));
+
+    memset(&device, 0, sizeof device);
+    CHECK(snjofrask_device_new(&none, 0, 0) == 0 && memcmp(&device, &none, sizeof none) == 0);
+    CHECK(is(device_step(&device, 0, 0), SNJOFRASK_KIND_REPLY, SNJOFRASK_CHANNEL_BROADCAST, SNJOFRASK_CMD_ERROR, 1));
+    CHECK(reply[0] == SNJOFRASK_ERR_INVALID_LEN);
+}
+
+/* half a message stands in the buffer while the device is disabled, and goes on after */
+static void disabled_writes_no_message(void)
+{
+    snjofrask_device device;
+
+    CHECK(snjofrask_device_new(&device, SNJOFRASK_LARGEST_PAYLOAD, 1) == 0);
+    put(SNJOFRASK_CHANNEL_BROADCAST, SNJOFRASK_CMD_INIT, 8, 0);
+    CHECK(is(device_step(&device, 0, 0), SNJOFRASK_KIND_REPLY, SNJOFRASK_CHANNEL_BROADCAST, SNJOFRASK_CMD_INIT, 17));
+    put(1, SNJOFRASK_CMD_CBOR, 117, 0);
+    CHECK(is(device_step(&device, 0, 0), SNJOFRASK_KIND_NOTHING, 0, 0, 0));
+    memset(message + 57, 0xEE, sizeof message - 57);
+    put(1, SNJOFRASK_CMD_CBOR, 117, 1);
+    CHECK(is(device_step(&device, 1, 1), SNJOFRASK_KIND_REPLY, 1, SNJOFRASK_CMD_ERROR, 1));
+    put(1, SNJOFRASK_CMD_PING, 8, 0);
+    CHECK(is(device_step(&device, 1, 1), SNJOFRASK_KIND_REPLY, 1, SNJOFRASK_CMD_ERROR, 1));
+    put(SNJOFRASK_CHANNEL_BROADCAST, SNJOFRASK_CMD_INIT, 8, 0);
+    CHECK(is(device_step(&device, 1, 1), SNJOFRASK_KIND_REPLY, SNJOFRASK_CHANNEL_BROADCAST, SNJOFRASK_CMD_ERROR, 1));
+    CHECK(memcmp(message, payload, 57) == 0 && all_are(message + 57, sizeof message - 57, 0xEE));
+    put(1, SNJOFRASK_CMD_CBOR, 117, 1);
+    CHECK(is(device_step(&device, 1, 0), SNJOFRASK_KIND_NOTHING, 0, 0, 0));
+    put(1, SNJOFRASK_CMD_CBOR, 117, 2);
+    CHECK(is(device_step(&device, 1, 0), SNJOFRASK_KIND_MESSAGE, 1, SNJOFRASK_CMD_CBOR, 117));
+    CHECK(memcmp(message, payload, 117) == 0);
 }
 
 static void devices(void)
@@ -393,6 +438,8 @@ int main(void)
         payload[i] = (uint8_t)(i + 1);
     packets();
     devices();
+    device_of_others();
+    disabled_writes_no_message();
     transports();
     hosts();
     lending_to_a_device();
