@@ -116,7 +116,7 @@ static int pipe_read(void *handle, unsigned char *packet, size_t len, int ms)
     seen.read++;
     memcpy(seen.last_read, packet, PACKET);
     if (packet[4] == 0xBB)
-        seen.keepalives += packet[5] == 0 && packet[6] == 1 && packet[7] == 2;
+        seen.keepalives += memcmp(packet, "\0\0\0\1\xbb\0\1\2", 8) == 0;
     else if (packet[4] >= 0x80)
         seen.answered = declared(packet);
     return PACKET;
