@@ -13,7 +13,7 @@ use Rattle.answers.specs.declared.Answer.the-variants.{Refused, Nothing,
 
 -- ---- what each answer says
 
--- one of the scope's refusals, or an answer of the standard's
+-- one of the refusals, or an answer of the standard's
 pub data Said : Type 0 where
   refused : (number : ℕ) → Said
   answered : standard.Answer → Said

@@ -8,7 +8,7 @@ use Rattle.bench_input.specs.Examples.{Examples}
 pub examples : Examples
 unfolding pick hexOf isDigit isHexDigit hexValue allHex bytesOf isFlag isHex isFormed inputOf lineOf
 examples = record {
-  scope = refl;
+  first = refl;
   flagged = refl;
   digits-15 = refl;
   bytes-64 = refl;

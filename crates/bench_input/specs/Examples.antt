@@ -1,4 +1,4 @@
--- What some lines read as (01-scope, Bench program, and the forms that the bench must not take). Assumes nothing.
+-- What some lines read as (docs/RULES.md, The bench's lines, and the forms that the bench must not take). Assumes nothing.
 use mathlib.Core.Path.{_≡_}
 use mathlib.Core.Bool.{true, false}
 use mathlib.Core.List.{[], _∷_, _++_}
@@ -7,8 +7,8 @@ use Rattle.bench_input.specs.Hex.{ascii, hexOf}
 use Rattle.bench_input.specs.Lines.{reads, unread, lineOf}
 
 pub record Examples : Type 0 where
-  -- a line of 01-scope's example, and one with a zero in front and a flag
-  pub scope : lineOf (ascii "5 0 00000001810002abcd") ≡ reads (record { time = 5; disabled = false; bytes = 0 ∷ 0 ∷ 0 ∷ 1 ∷ 0x81 ∷ 0 ∷ 2 ∷ 0xab ∷ 0xcd ∷ [] })
+  -- a line of the example of docs/RULES.md, and one with a zero in front and a flag
+  pub first : lineOf (ascii "5 0 00000001810002abcd") ≡ reads (record { time = 5; disabled = false; bytes = 0 ∷ 0 ∷ 0 ∷ 1 ∷ 0x81 ∷ 0 ∷ 2 ∷ 0xab ∷ 0xcd ∷ [] })
   pub flagged : lineOf (ascii "007 1 0f") ≡ reads (record { time = 7; disabled = true; bytes = 0x0f ∷ [] })
   -- the most that there can be
   pub digits-15 : lineOf (ascii "999999999999999 0 00") ≡ reads (record { time = 999_999_999_999_999; disabled = false; bytes = 0 ∷ [] })

@@ -1,4 +1,4 @@
--- 01-scope, Bench program: a line `time disabled hex` of its input, as it is written and as it is read. A line is the list of its characters, without the
+-- docs/RULES.md, The bench's lines: a line `time disabled hex` of its input, as it is written and as it is read. A line is the list of its characters, without the
 -- newline. Assumes nothing.
 use Prim.Native.Nat.{ℕ, suc, _+_, _-_, _*_, _≤_}
 use mathlib.Core.Path.{_≡_}

@@ -1,4 +1,4 @@
-// Input of the bench program, cut into lines, and what a line says. 01-scope, Bench program.
+// Input of the bench program, cut into lines, and what a line says. docs/RULES.md, The bench's lines.
 mod hex;
 mod lines;
 mod pieces;

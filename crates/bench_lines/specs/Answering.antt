@@ -1,4 +1,4 @@
--- 01-scope, Bench program: what a line prints, and what it leaves. Assumes nothing.
+-- docs/RULES.md, The bench's lines: what a line prints, and what it leaves. Assumes nothing.
 use Prim.Native.Nat.{ℕ, _≤_}
 use mathlib.Core.Path.{_≡_}
 use mathlib.Core.List.{List, [], _∷_}

@@ -1,4 +1,4 @@
-// A line of the bench program, answered: read, a step of the device on it, and what that prints. 01-scope, Bench program.
+// A line of the bench program, answered: read, a step of the device on it, and what that prints. docs/RULES.md, The bench's lines.
 mod answering;
 
 pub use answering::bench_line;

@@ -1,4 +1,4 @@
--- The definition gives the scope's example lines. Assumes nothing.
+-- The definition gives the example's lines. Assumes nothing.
 use mathlib.Core.Path.{refl}
 use mathlib.Core.List.{flatten}
 use Rattle.ctaphid.specs.Choice.{pick}

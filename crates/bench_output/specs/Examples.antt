@@ -1,4 +1,4 @@
--- What some answers print: the scope's example (01-scope, Bench program), and what it leaves out, as 7 bytes kept, an empty payload, numbers of two and
+-- What some answers print: the example of docs/RULES.md (examples/first.out), and what it leaves out, as 7 bytes kept, an empty payload, numbers of two and
 -- three digits. Assumes nothing.
 use mathlib.Core.Path.{_≡_}
 use mathlib.Core.List.{[], _∷_}

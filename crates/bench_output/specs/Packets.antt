@@ -1,4 +1,4 @@
--- The line that a packet prints, and the lines of a reply's packets (01-scope, Bench program). Assumes nothing.
+-- The line that a packet prints, and the lines of a reply's packets (docs/RULES.md, The bench's lines). Assumes nothing.
 use Prim.Native.Nat.{ℕ}
 use mathlib.Core.List.{List, [], _∷_, _++_, map, flatten, reverse}
 use lib.ListN.{take, drop}

@@ -1,4 +1,4 @@
--- The lines that an answer of the device prints (01-scope, Bench program). Assumes nothing.
+-- The lines that an answer of the device prints (docs/RULES.md, The bench's lines). Assumes nothing.
 use Prim.Native.Nat.{ℕ, _+_, _*_, _≤_}
 use mathlib.Core.List.{List, [], _∷_, _++_}
 use lib.ListN.{length}
@@ -35,7 +35,7 @@ commandLine c cmd payload = ascii "command " ++ hexOf (four c) ++ ascii " " ++ h
 unfoldable pub refusedLine : ℕ → List ℕ
 refusedLine n = ascii "refused " ++ decimal 3 n ++ ascii "\n"
 
--- what is said: a refusal of the scope's, or an answer of the standard's device
+-- what is said: a refusal, or an answer of the standard's device
 unfoldable pub answerLines : Said → List ℕ
 answerLines (refused n) = refusedLine n
 answerLines (answered nothing) = ascii "-\n"

@@ -1,4 +1,4 @@
-// What the bench program prints for an answer of the device. 01-scope, Bench program.
+// What the bench program prints for an answer of the device. docs/RULES.md, The bench's lines.
 mod packets;
 mod placing;
 mod printing;

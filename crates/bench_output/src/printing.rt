@@ -1,4 +1,4 @@
-// The lines that an answer of the device prints (01-scope, Bench program).
+// The lines that an answer of the device prints (docs/RULES.md, The bench's lines).
 use crate::Text;
 use crate::Texts;
 use crate::packets::put_packets;

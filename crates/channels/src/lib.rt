@@ -1,4 +1,4 @@
-// Channels and the lock, after OpenSK's hid/mod.rs: checks 1 and 2 of the scope's device step, and of check 7 the two commands that are about them.
+// Channels and the lock, after OpenSK's hid/mod.rs: of a step (docs/RULES.md) checks 1 and 2, and of check 7 the two commands that are about them.
 mod allocating;
 mod locking;
 mod validity;

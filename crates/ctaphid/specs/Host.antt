@@ -1,5 +1,5 @@
 -- The host's side of §11.2: what a host makes of the packets that a device sends on one channel. What a host does with them is not the standard's affair:
--- the refusals, by their numbers, are the scope's. Assumes nothing.
+-- the refusals, by their numbers, are ours (docs/RULES.md). Assumes nothing.
 use Prim.Native.Nat.{ℕ, _+_, _≤_, _<_, _^_}
 use mathlib.Core.Path.{_≡_}
 use mathlib.Core.List.{List, [], _∷_, _++_}

@@ -73,7 +73,7 @@ packets c cmd payload = packetsOf c cmd (length payload) (fields 57 59 payload)
 abbrev pub wire : (channel command : ℕ) → List ℕ → List (List ℕ)
 wire c cmd payload = map written (packets c cmd payload)
 
--- what that comes to, with the scope's figures: 57 bytes make 1 packet, 58 make 2, and 7,609 make 129, the last of which has number 127
+-- what that comes to, with the figures of rows E and F: 57 bytes make 1 packet, 58 make 2, and 7,609 make 129, the last of which has number 127
 pub record CutsOverHid : Type 0 where
   pub formula : (c cmd : ℕ) (payload : List ℕ) → length (packets c cmd payload) ≡ 1 + (length payload + 1) / 59
   pub of-57 : count 57 59 57 ≡ 1

@@ -1,4 +1,4 @@
--- Refusals: a call that is wrong gets a number, and alters nothing. They are the scope's, not the standard's: its table, in its order. Assumes nothing.
+-- Refusals: a call that is wrong gets a number, and alters nothing. They are ours, not the standard's: the table of docs/RULES.md, in its order. Assumes nothing.
 use Prim.Native.Nat.{ℕ}
 
 pub data Refusal : Type 0 where

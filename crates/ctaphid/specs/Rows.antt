@@ -1,4 +1,4 @@
--- Rows A to L of the scope's table, and further ones. Packets are bytes and numbers are bare, so that a wrong number in a table is noticed. Assumes nothing.
+-- Rows A to L of docs/RULES.md, and further ones. Packets are bytes and numbers are bare, so that a wrong number in a table is noticed. Assumes nothing.
 use Prim.Native.Nat.{ℕ, zero, suc, _+_, _-_, _≤_}
 use mathlib.Core.Path.{_≡_}
 use mathlib.Core.List.{List, [], _∷_, _++_, map}

@@ -27,7 +27,7 @@ ghost use Rattle.flat.specs.Telling.{isSet, outcomeOf, readOutcome, coun
 pub struct Kind;
 
 impl Kind {
-    // refusal: the scope's number.
+    // refusal: its number, of docs/RULES.md.
     pub const REFUSED: u8 = 0;
 
     pub const NOTHING: u8 = 1;

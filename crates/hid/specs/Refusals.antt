@@ -12,7 +12,7 @@ use Rattle.hid.specs.Soundness.{isSound}
 abbrev pub untimely : (last time : ℕ) → List (Bool × ℕ)
 untimely last time = (ltb lastTime time, 4) ∷ (ltb time last, 4) ∷ []
 
--- a step's refusals, in the scope's order: 1, the packet isn't 64 bytes; 2, a buffer is short; 3, the state is not sound; 4. Each of the last three is the
+-- a step's refusals, in this order: 1, the packet isn't 64 bytes; 2, a buffer is short; 3, the state is not sound; 4. Each of the last three is the
 -- length of what was lent
 abbrev pub refusals : CtapHid → (wink time packet message short : ℕ) → List (Bool × ℕ)
 refusals s wink time packet message short =

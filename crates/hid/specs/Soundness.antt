@@ -1,4 +1,4 @@
--- A sound state, as the scope lists it, in its order: as facts, and as the test that the code makes. Assumes nothing.
+-- A sound state, as docs/RULES.md lists it, in its order: as facts, and as the test that the code makes. Assumes nothing.
 use Prim.Native.Nat.{ℕ, _+_, _≤_, _<_}
 use mathlib.Core.Path.{_≡_}
 use mathlib.Core.List.{[], _∷_}

@@ -1,4 +1,4 @@
-// A packet that isn't refused meets the transport: checks 1 to 7 of the scope's device step.
+// A packet that isn't refused meets the transport: checks 1 to 7 of a step (docs/RULES.md).
 use crate::CtapHid;
 use crate::Stepped;
 use crate::commands::preprocess_message;

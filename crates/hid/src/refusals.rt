@@ -6,7 +6,7 @@ use packet::Refusal;
 ghost use mathlib.Core.Path.{_≡_};
 ghost use Rattle.hid.specs.Refusals.{refusalOf, refusedTime};
 
-// In the scope's order: 1, 2, 3, 4, or 0 where it isn't. The last three are the lengths of what was lent.
+// In this order: 1, 2, 3, 4, or 0 where it isn't. The last three are the lengths of what was lent.
 pub(crate) fn refusal(
     hid: CtapHid,
     wink: u64,

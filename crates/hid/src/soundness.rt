@@ -1,4 +1,4 @@
-// Whether a state makes sense: the scope's list, in its order.
+// Whether a state makes sense: the list of docs/RULES.md, in its order.
 use crate::CtapHid;
 use crate::MessageAssembler;
 use channels::is_allocated;

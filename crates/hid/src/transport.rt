@@ -1,4 +1,4 @@
-// The transport's step: the refusals, then checks 1 to 7 of the scope's device step.
+// The transport's step: the refusals, then checks 1 to 7 (docs/RULES.md).
 use crate::Answer;
 use crate::CtapHid;
 use crate::Stepped;

@@ -1,4 +1,4 @@
-// The host's side of CTAPHID: the packets of one channel put together into replies. OpenSK has none; the scope says what it does.
+// The host's side of CTAPHID: the packets of one channel put together into replies. OpenSK has none; docs/RULES.md says what it does.
 
 mod init;
 mod reading;

@@ -14,7 +14,7 @@ use Rattle.packet.specs.declared.ProcessedPacket.the-variants.{InitPacke
 use Rattle.packet.specs.declared.Reading.{Reading}
 use Rattle.packet.specs.declared.Reading.the-variants as reading
 
--- one of the scope's refusals, or the standard's packet
+-- one of the refusals, or the standard's packet
 pub data Read : Type 0 where
   refused : (number : ℕ) → Read
   packet : Packet → Read

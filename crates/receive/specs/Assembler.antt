@@ -18,7 +18,7 @@ use Rattle.receive.specs.declared.Received.the-variants.{Refused, Nothin
 use Rattle.receive.specs.declared.Assembled.{Assembled}
 use Rattle.receive.specs.Meaning.{receiverOf, assemblerOf}
 
--- ---- a sound transaction, as the scope lists it, but for its channel and its deadline, which are the transport's: as facts, and as a test. `Stands`:
+-- ---- a sound transaction, as docs/RULES.md lists it, but for its channel and its deadline, which are the transport's: as facts, and as a test. `Stands`:
 -- 57 < declared length ≤ maximum, 57 + 59s below it and equal to the bytes taken
 
 pub record Sound (a : MessageAssembler) (max : ℕ) : Type 0 where

@@ -31,7 +31,7 @@ impl MessageAssembler {
         }
     }
 
-    // No transaction, or one whose numbers make sense: the scope's list, but for channel and deadline.
+    // No transaction, or one whose numbers make sense: the list of docs/RULES.md, but for channel and deadline.
     pub fn is_sound(self, max: u32) -> bool
         ensures { λ r. ⌜ r ≡ isSound self max ⌝ }
     {

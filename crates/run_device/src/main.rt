@@ -1,4 +1,4 @@
-// Runs of the device that the scope asks for beside its rows: a broadcast INIT that declares 60 bytes, and a wink at its end.
+// Runs of the device beside the rows of docs/RULES.md: a broadcast INIT that declares 60 bytes, and a wink at its end.
 // A line has the time, the packet's front and the answer: its payload where it has one.
 use hid::Answer;
 use hid::MainHid;

@@ -1,4 +1,4 @@
--- Row G of the scope's table, the half that sending owes, and the counts of rows E and F as they are answered. Assumes nothing.
+-- Row G of docs/RULES.md, the half that sending owes, and the counts of rows E and F as they are answered. Assumes nothing.
 use Prim.Native.Nat.{ℕ, _≤_, _<_}
 use native.Mathlib.Omega.{arith}
 use mathlib.Core.Path.{_≡_, refl}

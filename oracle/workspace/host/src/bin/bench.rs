@@ -1,4 +1,4 @@
-//! The bench program of the scope, with OpenSK as the device. With `--runs`, as crates/replay reads
+//! The bench program, with OpenSK as the device. With `--runs`, as crates/replay reads
 //! it: a line that begins with `=` sets up another device, by its maximum, U2F and count of channels.
 use host::HostEnv;
 use opensk::ctap::CtapState;

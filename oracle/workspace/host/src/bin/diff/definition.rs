@@ -1,4 +1,4 @@
-//! The scope's rules for a step, written once more by hand. It says what the buffers must hold after
+//! The rules for a step (docs/RULES.md), written once more by hand. It says what the buffers must hold after
 //! each step; and with a fault planted it takes our library's place, to see that the fault is found.
 use crate::ours::{CtapHid, ECHO, MESSAGE, MessageAssembler, NOTHING, Outcome, REPLY};
 
