@@ -7,6 +7,10 @@ use core::arch::{asm, global_asm};
 use core::panic::PanicInfo;
 use snjofrask::{CHANNEL_BROADCAST, CtapHid, CtapHidCommand, MainHid, Message, Processed};
 
+#[cfg(target_arch = "aarch64")]
+global_asm!(".globl _start", "_start:", "b {main}", main = sym main);
+
+#[cfg(target_arch = "x86_64")]
 global_asm!(
     ".globl _start",
     "_start:",
@@ -42,6 +46,12 @@ fn is_welcomed() -> bool {
     )
 }
 
+#[cfg(target_arch = "aarch64")]
+fn exit(status: i32) -> ! {
+    unsafe { asm!("svc 0", in("x8") 93, in("x0") status, options(noreturn)) }
+}
+
+#[cfg(target_arch = "x86_64")]
 fn exit(status: i32) -> ! {
     unsafe { asm!("syscall", in("rax") 60, in("rdi") status, options(noreturn)) }
 }
