@@ -2,18 +2,21 @@
  * Snjofrask: CTAPHID, FIDO messages over USB HID in packets of 64 bytes, for C11 and C++17.
  * SPDX-License-Identifier: Apache-2.0
  *
- * Link target/staticlib/libsnjofrask.a, which `rt staticlib snjofrask` writes. It is for x86-64 with the System V calling
- * convention alone. It allocates nothing, keeps nothing between calls, and calls nothing outside.
+ * Link the libsnjofrask.a of your processor. `rt staticlib snjofrask` writes the one for x86-64 (System V), and
+ * `firmware/build TARGET` those for Cortex-M4, Cortex-M33, RISC-V of 32 bits and AArch64: firmware/README.md. Each allocates
+ * nothing and keeps nothing between calls. Those for x86-64 and AArch64 call nothing outside, the others memcpy and its like.
  * examples/firmware is a main loop over it, docs/RULES.md has all rules.
  *
  * What is proved holds for callers that keep to this:
  *  - Every pointer is valid for the count after it, or for its struct, is aligned as its type, and is not null, also
  *    where the count is 0.
  *  - What a call may write (a pointer that is not const) overlaps nothing else that is lent to the same call.
- *  - A call takes up to SNJOFRASK_STACK_SIZE bytes of stack. Of these up to 128 may lie below the stack pointer (the red
- *    zone): an interrupt handler on the same stack has to skip them, or run on a stack of its own.
- *  - Vector registers (xmm0 to xmm15) are used, and left with other contents, as the calling convention allows. An
- *    interrupt handler or a kernel that calls in has to save them as it saves the others.
+ *  - A call takes up to SNJOFRASK_STACK_SIZE bytes of stack, and what memcpy takes. On x86-64 up to 128 of these may lie
+ *    below the stack pointer (the red zone): an interrupt handler on the same stack has to skip them, or run on a stack of
+ *    its own. Elsewhere nothing lies there.
+ *  - Vector registers are used on x86-64 (xmm0 to xmm15) and on AArch64, and left with other contents, as the calling
+ *    convention allows. An interrupt handler or a kernel that calls in has to save them as it saves the others. On Cortex-M
+ *    no floating-point register is touched.
  *
  * A state (a transport or a device) comes from its _new entry and is altered by calls alone. Whatever else stands there
  * does no harm: a step refuses it with 2, where its max is more than the message buffer has, or with 3, where it makes no
@@ -37,33 +40,49 @@
 #elif !defined(__STDC_VERSION__) || __STDC_VERSION__ < 201112L
 #error "snjofrask.h is for C11 or later: compile with -std=c11"
 #endif
-#if !defined(__x86_64__) || defined(__ILP32__) || defined(_WIN32) || defined(__CYGWIN__)
-#error "libsnjofrask.a is for x86-64 with the System V calling convention and 64-bit pointers alone"
+
+/*
+ * The processors that there is an archive for. SNJOFRASK_ENTRY: the archive's calling convention, whatever the caller is
+ * compiled for (-mabi=ms, -mfloat-abi=hard). SNJOFRASK_STACK_SIZE: bytes of stack that a call takes at most, with the
+ * return address and the red zone where there are such, and without what memcpy and its like take.
+ */
+#if defined(__x86_64__) && !defined(__ILP32__) && !defined(_WIN32) && !defined(__CYGWIN__)
+#define SNJOFRASK_ENTRY __attribute__((sysv_abi))
+#define SNJOFRASK_STACK_SIZE 504
+#elif defined(__ARM_EABI__) && defined(__thumb2__) && !defined(__ARM_BIG_ENDIAN) && __ARM_ARCH_PROFILE == 'M' && \
+    (__ARM_ARCH >= 8 || defined(__ARM_FEATURE_DSP))
+#define SNJOFRASK_ENTRY __attribute__((pcs("aapcs")))
+#define SNJOFRASK_STACK_SIZE 504
+#elif defined(__riscv) && __riscv_xlen == 32 && !defined(__riscv_32e) && defined(__riscv_mul) && defined(__riscv_compressed) && \
+    defined(__riscv_float_abi_soft)
+#define SNJOFRASK_ENTRY
+#define SNJOFRASK_STACK_SIZE 496
+#elif defined(__aarch64__) && defined(__LP64__) && !defined(__AARCH64EB__) && !defined(__APPLE__)
+#define SNJOFRASK_ENTRY
+#define SNJOFRASK_STACK_SIZE 416
+#else
+#error "there is no libsnjofrask.a for this processor and calling convention: firmware/README.md says for which there is"
 #endif
 
 #include <stddef.h>
 #include <stdint.h>
 
-/* whatever convention the caller is compiled for (-mabi=ms) */
-#define SNJOFRASK_ENTRY __attribute__((sysv_abi))
-
 #ifdef __cplusplus
 #define SNJOFRASK_ASSERT(test) static_assert(test, #test)
+#define SNJOFRASK_ALIGNMENT(type) alignof(type)
 extern "C" {
 #else
 #define SNJOFRASK_ASSERT(test) _Static_assert(test, #test)
+#define SNJOFRASK_ALIGNMENT(type) _Alignof(type)
 #endif
 
 /* ---- numbers */
 
 /* Of the library: header and archive belong together. */
-#define SNJOFRASK_VERSION "0.1.0"
+#define SNJOFRASK_VERSION "0.2.0"
 #define SNJOFRASK_VERSION_MAJOR 0
-#define SNJOFRASK_VERSION_MINOR 1
+#define SNJOFRASK_VERSION_MINOR 2
 #define SNJOFRASK_VERSION_PATCH 0
-
-/* Bytes of stack that a call takes at most, its return address and the red zone included. */
-#define SNJOFRASK_STACK_SIZE 504
 
 /* Limits: bytes and milliseconds. */
 #define SNJOFRASK_PACKET_SIZE 64
@@ -202,11 +221,12 @@ typedef struct snjofrask_init_outcome {
     uint8_t nonce[8];
 } snjofrask_init_outcome;
 
-/* the layout that the archive was compiled for */
-SNJOFRASK_ASSERT(sizeof(size_t) == 8);
-SNJOFRASK_ASSERT(sizeof(void *) == 8);
+/* the layout that the archive was compiled for: the same on every processor, but for the length of an outcome */
+SNJOFRASK_ASSERT(sizeof(size_t) == sizeof(void *));
+SNJOFRASK_ASSERT(sizeof(size_t) == 8 || sizeof(size_t) == 4);
 
 SNJOFRASK_ASSERT(sizeof(snjofrask_assembler) == 24);
+SNJOFRASK_ASSERT(SNJOFRASK_ALIGNMENT(snjofrask_assembler) == 8);
 SNJOFRASK_ASSERT(offsetof(snjofrask_assembler, deadline) == 0);
 SNJOFRASK_ASSERT(offsetof(snjofrask_assembler, cid) == 8);
 SNJOFRASK_ASSERT(offsetof(snjofrask_assembler, len) == 12);
@@ -215,6 +235,7 @@ SNJOFRASK_ASSERT(offsetof(snjofrask_assembler, cmd) == 20);
 SNJOFRASK_ASSERT(offsetof(snjofrask_assembler, seq) == 22);
 
 SNJOFRASK_ASSERT(sizeof(snjofrask_transport) == 56);
+SNJOFRASK_ASSERT(SNJOFRASK_ALIGNMENT(snjofrask_transport) == 8);
 SNJOFRASK_ASSERT(offsetof(snjofrask_transport, assembler) == 0);
 SNJOFRASK_ASSERT(offsetof(snjofrask_transport, lock) == 24);
 SNJOFRASK_ASSERT(offsetof(snjofrask_transport, last) == 32);
@@ -224,24 +245,28 @@ SNJOFRASK_ASSERT(offsetof(snjofrask_transport, max) == 48);
 SNJOFRASK_ASSERT(offsetof(snjofrask_transport, u2f) == 52);
 
 SNJOFRASK_ASSERT(sizeof(snjofrask_device) == 64);
+SNJOFRASK_ASSERT(SNJOFRASK_ALIGNMENT(snjofrask_device) == 8);
 SNJOFRASK_ASSERT(offsetof(snjofrask_device, hid) == 0);
 SNJOFRASK_ASSERT(offsetof(snjofrask_device, wink) == 56);
 
 SNJOFRASK_ASSERT(sizeof(snjofrask_collection) == 6);
+SNJOFRASK_ASSERT(SNJOFRASK_ALIGNMENT(snjofrask_collection) == 2);
 SNJOFRASK_ASSERT(offsetof(snjofrask_collection, len) == 0);
 SNJOFRASK_ASSERT(offsetof(snjofrask_collection, taken) == 2);
 SNJOFRASK_ASSERT(offsetof(snjofrask_collection, cmd) == 4);
 SNJOFRASK_ASSERT(offsetof(snjofrask_collection, seq) == 5);
 
-SNJOFRASK_ASSERT(sizeof(snjofrask_outcome) == 16);
+SNJOFRASK_ASSERT(sizeof(snjofrask_outcome) == sizeof(size_t) + 8);
+SNJOFRASK_ASSERT(SNJOFRASK_ALIGNMENT(snjofrask_outcome) == sizeof(size_t));
 SNJOFRASK_ASSERT(offsetof(snjofrask_outcome, len) == 0);
-SNJOFRASK_ASSERT(offsetof(snjofrask_outcome, cid) == 8);
-SNJOFRASK_ASSERT(offsetof(snjofrask_outcome, kind) == 12);
-SNJOFRASK_ASSERT(offsetof(snjofrask_outcome, cmd) == 13);
-SNJOFRASK_ASSERT(offsetof(snjofrask_outcome, refusal) == 14);
-SNJOFRASK_ASSERT(offsetof(snjofrask_outcome, spare) == 15);
+SNJOFRASK_ASSERT(offsetof(snjofrask_outcome, cid) == sizeof(size_t));
+SNJOFRASK_ASSERT(offsetof(snjofrask_outcome, kind) == sizeof(size_t) + 4);
+SNJOFRASK_ASSERT(offsetof(snjofrask_outcome, cmd) == sizeof(size_t) + 5);
+SNJOFRASK_ASSERT(offsetof(snjofrask_outcome, refusal) == sizeof(size_t) + 6);
+SNJOFRASK_ASSERT(offsetof(snjofrask_outcome, spare) == sizeof(size_t) + 7);
 
 SNJOFRASK_ASSERT(sizeof(snjofrask_init_outcome) == 20);
+SNJOFRASK_ASSERT(SNJOFRASK_ALIGNMENT(snjofrask_init_outcome) == 4);
 SNJOFRASK_ASSERT(offsetof(snjofrask_init_outcome, cid) == 0);
 SNJOFRASK_ASSERT(offsetof(snjofrask_init_outcome, protocol) == 4);
 SNJOFRASK_ASSERT(offsetof(snjofrask_init_outcome, major) == 5);

@@ -40,14 +40,23 @@
 //! # Ok::<(), snjofrask::Refusal>(())
 //! ```
 //!
-//! The archive is for x86-64. `rt staticlib snjofrask` in the repository writes it; the environment variable
-//! `SNJOFRASK_LIB` names its folder if it is elsewhere. It uses the 128 bytes below the stack pointer, so an
-//! interrupt handler on the same stack has to skip them.
+//! In the repository `rt staticlib snjofrask` writes the archive for x86-64, and `firmware/build TARGET` those for
+//! Cortex-M4, Cortex-M33, RISC-V of 32 bits and AArch64; the environment variable `SNJOFRASK_LIB` names its folder if it is
+//! elsewhere. On x86-64 it uses the 128 bytes below the stack pointer, so an interrupt handler on the same stack has to
+//! skip them.
 #![no_std]
 #![deny(missing_docs, unsafe_code)]
 
-#[cfg(not(target_arch = "x86_64"))]
-compile_error!("the archive is for x86-64");
+#[cfg(not(any(
+    target_arch = "x86_64",
+    target_arch = "aarch64",
+    target_arch = "arm",
+    target_arch = "riscv32"
+)))]
+compile_error!("there is no archive for this processor");
+
+#[cfg(target_endian = "big")]
+compile_error!("every archive is for little endian");
 
 mod hid;
 mod host;

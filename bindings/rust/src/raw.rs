@@ -69,7 +69,9 @@ pub struct InitOutcome {
 
 const _: () = assert!(size_of::<MessageAssembler>() == 24 && size_of::<CtapHid>() == 56);
 const _: () = assert!(size_of::<MainHid>() == 64 && size_of::<Collection>() == 6);
-const _: () = assert!(size_of::<Outcome>() == 16 && size_of::<InitOutcome>() == 20);
+const _: () = assert!(size_of::<Outcome>() == size_of::<usize>() + 8);
+const _: () = assert!(size_of::<InitOutcome>() == 20);
+const _: () = assert!(align_of::<CtapHid>() == 8 && align_of::<MainHid>() == 8);
 
 pub mod kind {
     pub const REFUSED: u8 = 0;

@@ -1,0 +1,179 @@
+/*
+ * include/snjofrask.h's entries, by the calling convention of the processor that this is compiled for, over the proved
+ * program's. There a length has 64 bits on every processor: here, and nowhere else, it is widened, and narrowed again.
+ *
+ * proved_NAME is the proved program's snjofrask_NAME. Its result is stored where the first argument points, because a
+ * processor may return it otherwise than x86-64, for which the program was made: firmware/module writes these.
+ */
+#include "snjofrask.h"
+
+#ifdef __ARM_EABI__
+/* No floating-point number is passed and no enum or wide character used, so linkers may put this beside code of either kind. */
+__asm__(".eabi_attribute Tag_ABI_VFP_args, 3\n\t"
+        ".eabi_attribute Tag_ABI_enum_size, 0\n\t"
+        ".eabi_attribute Tag_ABI_PCS_wchar_t, 0");
+#endif
+
+/* as the proved program lays it out; the other structs are alike on every processor */
+typedef struct proved_outcome {
+    uint64_t len;
+    uint32_t cid;
+    uint8_t kind;
+    uint8_t cmd;
+    uint8_t refusal;
+    uint8_t spare;
+} proved_outcome;
+
+SNJOFRASK_ASSERT(sizeof(proved_outcome) == 16);
+SNJOFRASK_ASSERT(SNJOFRASK_ALIGNMENT(proved_outcome) == 8);
+SNJOFRASK_ASSERT(offsetof(proved_outcome, len) == 0);
+SNJOFRASK_ASSERT(offsetof(proved_outcome, cid) == 8);
+SNJOFRASK_ASSERT(offsetof(proved_outcome, kind) == 12);
+SNJOFRASK_ASSERT(offsetof(proved_outcome, cmd) == 13);
+SNJOFRASK_ASSERT(offsetof(proved_outcome, refusal) == 14);
+SNJOFRASK_ASSERT(offsetof(proved_outcome, spare) == 15);
+
+/* no length is above 7,609, so none is cut */
+static snjofrask_outcome narrowed(proved_outcome outcome)
+{
+    return (snjofrask_outcome){.len = (size_t)outcome.len,
+                               .cid = outcome.cid,
+                               .kind = outcome.kind,
+                               .cmd = outcome.cmd,
+                               .refusal = outcome.refusal,
+                               .spare = outcome.spare};
+}
+
+/* ---- a device */
+
+void proved_device_new(uint8_t *refusal, snjofrask_device *hid, uint64_t max, uint8_t u2f);
+void proved_device_step(proved_outcome *outcome, snjofrask_device *hid, uint64_t time, uint8_t disabled,
+                        const uint8_t *packet, uint64_t packet_len, uint8_t *message, uint64_t message_len,
+                        uint8_t *reply, uint64_t reply_len);
+void proved_is_winking(uint8_t *winking, const snjofrask_device *hid, uint64_t time);
+
+uint8_t snjofrask_device_new(snjofrask_device *hid, size_t max, uint8_t u2f)
+{
+    uint8_t refusal;
+
+    proved_device_new(&refusal, hid, max, u2f);
+    return refusal;
+}
+
+snjofrask_outcome snjofrask_device_step(snjofrask_device *hid, uint64_t time, uint8_t disabled, const uint8_t *packet,
+                                        size_t packet_len, uint8_t *message, size_t message_len, uint8_t *reply,
+                                        size_t reply_len)
+{
+    proved_outcome outcome;
+
+    proved_device_step(&outcome, hid, time, disabled, packet, packet_len, message, message_len, reply, reply_len);
+    return narrowed(outcome);
+}
+
+uint8_t snjofrask_is_winking(const snjofrask_device *hid, uint64_t time)
+{
+    uint8_t winking;
+
+    proved_is_winking(&winking, hid, time);
+    return winking;
+}
+
+/* ---- a transport alone */
+
+void proved_transport_new(uint8_t *refusal, snjofrask_transport *hid, uint64_t max, uint8_t u2f);
+void proved_transport_step(proved_outcome *outcome, snjofrask_transport *hid, uint64_t time, uint8_t disabled,
+                           const uint8_t *packet, uint64_t packet_len, uint8_t *message, uint64_t message_len,
+                           uint8_t *reply, uint64_t reply_len);
+void proved_is_locked(uint8_t *locked, const snjofrask_transport *hid, uint64_t time);
+
+uint8_t snjofrask_transport_new(snjofrask_transport *hid, size_t max, uint8_t u2f)
+{
+    uint8_t refusal;
+
+    proved_transport_new(&refusal, hid, max, u2f);
+    return refusal;
+}
+
+snjofrask_outcome snjofrask_transport_step(snjofrask_transport *hid, uint64_t time, uint8_t disabled,
+                                           const uint8_t *packet, size_t packet_len, uint8_t *message,
+                                           size_t message_len, uint8_t *reply, size_t reply_len)
+{
+    proved_outcome outcome;
+
+    proved_transport_step(&outcome, hid, time, disabled, packet, packet_len, message, message_len, reply, reply_len);
+    return narrowed(outcome);
+}
+
+uint8_t snjofrask_is_locked(const snjofrask_transport *hid, uint64_t time)
+{
+    uint8_t locked;
+
+    proved_is_locked(&locked, hid, time);
+    return locked;
+}
+
+/* ---- packets */
+
+void proved_read_packet(proved_outcome *outcome, const uint8_t *packet, uint64_t packet_len);
+void proved_packet_count(proved_outcome *outcome, uint64_t len);
+void proved_write_packet(uint8_t *refusal, uint32_t cid, uint8_t cmd, const uint8_t *payload, uint64_t payload_len,
+                         uint64_t index, uint8_t *packet, uint64_t packet_len);
+void proved_split_message(uint8_t *refusal, uint32_t cid, uint8_t cmd, const uint8_t *payload, uint64_t payload_len,
+                          uint8_t internal_error, uint64_t index, uint8_t *packet, uint64_t packet_len);
+
+snjofrask_outcome snjofrask_read_packet(const uint8_t *packet, size_t packet_len)
+{
+    proved_outcome outcome;
+
+    proved_read_packet(&outcome, packet, packet_len);
+    return narrowed(outcome);
+}
+
+snjofrask_outcome snjofrask_packet_count(size_t len)
+{
+    proved_outcome outcome;
+
+    proved_packet_count(&outcome, len);
+    return narrowed(outcome);
+}
+
+uint8_t snjofrask_write_packet(uint32_t cid, uint8_t cmd, const uint8_t *payload, size_t payload_len, size_t index,
+                               uint8_t *packet, size_t packet_len)
+{
+    uint8_t refusal;
+
+    proved_write_packet(&refusal, cid, cmd, payload, payload_len, index, packet, packet_len);
+    return refusal;
+}
+
+uint8_t snjofrask_split_message(uint32_t cid, uint8_t cmd, const uint8_t *payload, size_t payload_len,
+                                uint8_t internal_error, size_t index, uint8_t *packet, size_t packet_len)
+{
+    uint8_t refusal;
+
+    proved_split_message(&refusal, cid, cmd, payload, payload_len, internal_error, index, packet, packet_len);
+    return refusal;
+}
+
+/* ---- a host */
+
+void proved_host_read(proved_outcome *outcome, snjofrask_collection *collection, uint32_t cid, const uint8_t *packet,
+                      uint64_t packet_len, uint8_t *buffer, uint64_t buffer_len);
+void proved_init_reply(snjofrask_init_outcome *outcome, uint8_t cmd, const uint8_t *payload, uint64_t payload_len);
+
+snjofrask_outcome snjofrask_host_read(snjofrask_collection *collection, uint32_t cid, const uint8_t *packet,
+                                      size_t packet_len, uint8_t *buffer, size_t buffer_len)
+{
+    proved_outcome outcome;
+
+    proved_host_read(&outcome, collection, cid, packet, packet_len, buffer, buffer_len);
+    return narrowed(outcome);
+}
+
+snjofrask_init_outcome snjofrask_init_reply(uint8_t cmd, const uint8_t *payload, size_t payload_len)
+{
+    snjofrask_init_outcome outcome;
+
+    proved_init_reply(&outcome, cmd, payload, payload_len);
+    return outcome;
+}
