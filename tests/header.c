@@ -1,7 +1,32 @@
-/* Calls every entry of include/snjofrask.h, as C11 and as C++17, and holds what it answers, writes and leaves alone to docs/RULES.md. */
+/*
+ * Calls every entry of include/snjofrask.h, as C11 and as C++17, and holds what it answers, writes and leaves alone to
+ * docs/RULES.md. Without a C library it is for a board of firmware/image.
+ */
 #include "snjofrask.h"
-#include <stdio.h>
 #include <string.h>
+
+#if __STDC_HOSTED__
+#include <stdio.h>
+
+static void report(const char *text, int line)
+{
+    fprintf(stderr, "tests/header.c:%d: not so: %s\n", line, text);
+}
+#else
+#include "board.h"
+
+static void report(const char *text, int line)
+{
+    const uint8_t number[] = {(uint8_t)('0' + line / 100), (uint8_t)('0' + line / 10 % 10), (uint8_t)('0' + line % 10), ' '};
+    size_t len = 0;
+
+    while (text[len] != 0)
+        len++;
+    board_write(number, sizeof number);
+    board_write((const uint8_t *)text, len);
+    board_write((const uint8_t *)"\n", 1);
+}
+#endif
 
 static int failures;
 
@@ -10,7 +35,7 @@ static int failures;
 static void check(int holds, const char *text, int line)
 {
     if (!holds) {
-        fprintf(stderr, "tests/header.c:%d: not so: %s\n", line, text);
+        report(text, line);
         failures++;
     }
 }
@@ -432,6 +457,92 @@ static void lending_to_a_host(void)
     CHECK(!returns(&collection, 58, 1));
 }
 
+/* A length's highest bit, whatever its width. No memory is so long, so this is more than is promised: a refusal looks at nothing. */
+#define HIGH (~((size_t)-1 >> 1))
+
+/* Every bit of a length or an index counts: whoever drops some takes these for others. */
+static void highest_lengths(void)
+{
+    put(1, SNJOFRASK_CMD_PING, 57, 0);
+    CHECK(is_refused(snjofrask_packet_count(HIGH), SNJOFRASK_REFUSAL_LONG_PAYLOAD));
+    CHECK(is_refused(snjofrask_read_packet(packet, HIGH + 64), SNJOFRASK_REFUSAL_PACKET_SIZE));
+    CHECK(snjofrask_write_packet(1, 1, payload, 1, 0, packet, HIGH + 64) == SNJOFRASK_REFUSAL_PACKET_SIZE);
+    CHECK(snjofrask_write_packet(1, 1, payload, HIGH, 0, packet, 64) == SNJOFRASK_REFUSAL_LONG_PAYLOAD);
+    CHECK(snjofrask_write_packet(1, 1, payload, 1, HIGH, packet, 64) == SNJOFRASK_REFUSAL_INDEX);
+    CHECK(snjofrask_write_packet(1, 1, payload, 1, 256, packet, 64) == SNJOFRASK_REFUSAL_INDEX);
+    CHECK(snjofrask_split_message(1, 1, payload, 1, 0xF2, 0, packet, HIGH + 64) == SNJOFRASK_REFUSAL_PACKET_SIZE);
+    CHECK(snjofrask_split_message(1, 1, payload, 1, 0xF2, HIGH, packet, 64) == SNJOFRASK_REFUSAL_INDEX);
+    CHECK(snjofrask_split_message(1, 1, payload, 1, 0xF2, 256, packet, 64) == SNJOFRASK_REFUSAL_INDEX);
+    CHECK(snjofrask_split_message(1, 1, payload, HIGH, 0xF2, 0, packet, 64) == 0 && packet[7] == 0xF2);
+    CHECK(snjofrask_init_reply(SNJOFRASK_CMD_INIT, payload, HIGH + 17).refusal == SNJOFRASK_REFUSAL_NOT_INIT);
+    CHECK(snjofrask_init_reply(SNJOFRASK_CMD_INIT, payload, 256 + 17).refusal == SNJOFRASK_REFUSAL_NOT_INIT);
+}
+
+static void lengths_to_a_state(void)
+{
+    static uint8_t long_message[65536];
+    static uint8_t long_reply[256];
+    snjofrask_device device;
+    snjofrask_transport transport;
+    snjofrask_collection collection;
+
+    memset(&collection, 0, sizeof collection);
+    CHECK(snjofrask_device_new(&device, HIGH + 57, 0) == SNJOFRASK_REFUSAL_MAXIMUM);
+    CHECK(snjofrask_transport_new(&transport, HIGH + 57, 0) == SNJOFRASK_REFUSAL_MAXIMUM);
+    CHECK(snjofrask_device_new(&device, 65536 + 57, 0) == SNJOFRASK_REFUSAL_MAXIMUM);
+    CHECK(snjofrask_transport_new(&transport, 65536 + 57, 0) == SNJOFRASK_REFUSAL_MAXIMUM);
+    CHECK(snjofrask_device_new(&device, 57, 0) == 0 && snjofrask_transport_new(&transport, 57, 0) == 0);
+    put(SNJOFRASK_CHANNEL_BROADCAST, SNJOFRASK_CMD_INIT, 8, 0);
+    CHECK(is_refused(snjofrask_device_step(&device, 0, 0, packet, HIGH + 64, message, 57, reply, 17), SNJOFRASK_REFUSAL_PACKET_SIZE));
+    CHECK(is_refused(snjofrask_transport_step(&transport, 0, 0, packet, HIGH + 64, message, 57, reply, 17), SNJOFRASK_REFUSAL_PACKET_SIZE));
+    CHECK(is_refused(snjofrask_host_read(&collection, 1, packet, HIGH + 64, message, 57), SNJOFRASK_REFUSAL_PACKET_SIZE));
+    CHECK(is_refused(snjofrask_device_step(&device, 0, 0, packet, 64, message, 57, reply, 16), SNJOFRASK_REFUSAL_SHORT_BUFFER));
+    CHECK(is_refused(snjofrask_transport_step(&transport, 0, 0, packet, 64, message, 57, reply, 16), SNJOFRASK_REFUSAL_SHORT_BUFFER));
+    /* a long one is long, though of its last 8 or 16 bits few are set */
+    CHECK(is(snjofrask_device_step(&device, 0, 0, packet, 64, long_message, 65536, long_reply, 256), SNJOFRASK_KIND_REPLY,
+             SNJOFRASK_CHANNEL_BROADCAST, SNJOFRASK_CMD_INIT, 17));
+    CHECK(is(snjofrask_transport_step(&transport, 0, 0, packet, 64, long_message, 65536, long_reply, 256), SNJOFRASK_KIND_REPLY,
+             SNJOFRASK_CHANNEL_BROADCAST, SNJOFRASK_CMD_INIT, 17));
+    put(1, SNJOFRASK_CMD_PING, 8, 0);
+    CHECK(is(snjofrask_host_read(&collection, 1, packet, 64, long_message, 65536), SNJOFRASK_KIND_COLLECTED, 0, SNJOFRASK_CMD_PING, 8));
+}
+
+/* A flag is set by any bit, and a time counts beyond 32 of them. */
+static void flags_and_times(void)
+{
+    const uint64_t late = (uint64_t)1 << 32;
+    snjofrask_device device;
+    snjofrask_transport transport;
+
+    CHECK(snjofrask_device_new(&device, 57, 0x80) == 0 && device.hid.u2f == 1);
+    CHECK(snjofrask_transport_new(&transport, 57, 0x80) == 0 && transport.u2f == 1);
+    put(SNJOFRASK_CHANNEL_BROADCAST, SNJOFRASK_CMD_INIT, 8, 0);
+    CHECK(is(device_step(&device, 0, 0x80), SNJOFRASK_KIND_REPLY, SNJOFRASK_CHANNEL_BROADCAST, SNJOFRASK_CMD_ERROR, 1));
+    CHECK(is(transport_step(&transport, 0, 0x80), SNJOFRASK_KIND_REPLY, SNJOFRASK_CHANNEL_BROADCAST, SNJOFRASK_CMD_ERROR, 1));
+    CHECK(device_step(&device, 0, 0).cmd == SNJOFRASK_CMD_INIT && transport_step(&transport, 0, 0).cmd == SNJOFRASK_CMD_INIT);
+    put(1, SNJOFRASK_CMD_WINK, 0, 0);
+    CHECK(device_step(&device, 0, 0).cmd == SNJOFRASK_CMD_WINK);
+    put(1, SNJOFRASK_CMD_LOCK, 1, 0);
+    CHECK(transport_step(&transport, 0, 0).cmd == SNJOFRASK_CMD_LOCK);
+    CHECK(snjofrask_is_winking(&device, 1) == 1 && snjofrask_is_winking(&device, late + 1) == 0);
+    CHECK(snjofrask_is_locked(&transport, 1) == 1 && snjofrask_is_locked(&transport, late + 1) == 0);
+}
+
+/* And so does every bit of a channel and a command. */
+static void channels_and_commands(void)
+{
+    static const uint8_t front[] = {0x92, 0x34, 0x56, 0x78, 0x81, 0, 1};
+    snjofrask_collection collection;
+
+    memset(&collection, 0, sizeof collection);
+    CHECK(snjofrask_init_reply(SNJOFRASK_CMD_INIT, payload, 17).refusal == 0);
+    CHECK(snjofrask_init_reply(SNJOFRASK_CMD_INIT | 0x80, payload, 17).refusal == SNJOFRASK_REFUSAL_NOT_INIT);
+    CHECK(snjofrask_split_message(0x92345678, SNJOFRASK_CMD_PING, payload, 1, 0xF2, 0, packet, 64) == 0);
+    CHECK(memcmp(packet, front, sizeof front) == 0);
+    CHECK(is(snjofrask_host_read(&collection, 0x345678, packet, 64, message, 57), SNJOFRASK_KIND_IGNORED, 0, 0, 0));
+    CHECK(is(snjofrask_host_read(&collection, 0x92345678, packet, 64, message, 57), SNJOFRASK_KIND_COLLECTED, 0, SNJOFRASK_CMD_PING, 1));
+}
+
 int main(void)
 {
     for (size_t i = 0; i < sizeof payload; i++)
@@ -444,5 +555,9 @@ int main(void)
     hosts();
     lending_to_a_device();
     lending_to_a_host();
+    highest_lengths();
+    lengths_to_a_state();
+    flags_and_times();
+    channels_and_commands();
     return failures == 0 ? 0 : 1;
 }
