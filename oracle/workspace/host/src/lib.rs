@@ -1,5 +1,10 @@
 //! The environment that OpenSK's transport runs in here: time set from outside, and the largest
-//! message it accepts. The transport calls nothing else.
+//! message it accepts. The transport calls nothing else. It needs no std, so that speed/cortex-m4 can have it too.
+#![no_std]
+
+extern crate alloc;
+
+use alloc::string::String;
 use opensk::api::clock::Clock;
 use opensk::api::connection::{HidConnection, RecvStatus, UsbEndpoint};
 use opensk::api::crypto::{Crypto, ec_signing::Ecdsa, ecdh::Ecdh};

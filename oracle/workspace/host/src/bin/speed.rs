@@ -2,16 +2,22 @@
 //!   speed JOB=COUNT ...   each job in its turn, with a call of speed_mark before each and after the last
 //!   speed --jobs          the jobs, SIDE:WHAT:ROW
 //!   speed --check         compares what the two sides answer to each row, packet for packet
+//! All but main needs no std: it is a module of speed/m4/main.rs too.
+extern crate alloc;
+
 #[allow(dead_code)]
 #[path = "diff/ours.rs"]
 mod ours;
 
+use alloc::format;
+use alloc::vec;
+use alloc::vec::Vec;
+use core::hint::black_box;
 use host::HostEnv;
 use opensk::ctap::CtapState;
 use opensk::ctap::hid::{CtapHid, HidPacket};
 use opensk::ctap::main_hid::MainHid;
 use ours::{COLLECTED, ECHO, MESSAGE, REPLY};
-use std::hint::black_box;
 
 const LARGEST: usize = 7609;
 const BROADCAST: u32 = 0xffff_ffff;
@@ -24,8 +30,8 @@ const TIME: u64 = 5;
 
 // ---- the rows
 
-struct Row {
-    name: &'static str,
+pub struct Row {
+    pub name: &'static str,
     /// What comes first, and is not counted.
     before: Vec<HidPacket>,
     /// One message.
@@ -43,7 +49,7 @@ impl Row {
     }
 }
 
-fn rows() -> Vec<Row> {
+pub fn rows() -> Vec<Row> {
     // two channels
     let open = [init(), init()].concat();
     let long = message(1, PING, LARGEST);
@@ -68,6 +74,16 @@ fn rows() -> Vec<Row> {
         row("spurious", &open, spurious),
         row("lock", &open, lock),
     ]
+}
+
+/// A PING of so many bytes.
+#[cfg(target_os = "none")]
+pub fn ping(name: &'static str, len: usize) -> Row {
+    Row {
+        name,
+        before: [init(), init()].concat(),
+        packets: message(1, PING, len),
+    }
 }
 
 fn init() -> Vec<HidPacket> {
@@ -234,7 +250,7 @@ impl Side for Copy {
 
 // ---- jobs
 
-const JOBS: [&str; 6] = [
+pub const JOBS: [&str; 6] = [
     "rust:received",
     "rust:device",
     "rust:drawn",
@@ -288,7 +304,7 @@ fn ours_device<const DRAWN: bool>() -> OursDevice<DRAWN> {
     }
 }
 
-fn run(job: &str, row: &Row, count: usize, sink: impl FnMut(&[u8])) {
+pub fn run(job: &str, row: &Row, count: usize, sink: impl FnMut(&[u8])) {
     match job {
         "rust:received" => {
             let side = RustReceived {
@@ -327,7 +343,7 @@ fn run(job: &str, row: &Row, count: usize, sink: impl FnMut(&[u8])) {
     }
 }
 
-fn check(rows: &[Row]) {
+pub fn check(rows: &[Row]) {
     for row in rows {
         for what in ["received", "drawn"] {
             let [rust, ours] = ["rust", "ours"].map(|side| {
@@ -352,6 +368,7 @@ fn check(rows: &[Row]) {
     assert_eq!(replies, 3);
 }
 
+#[cfg(not(target_os = "none"))]
 fn main() {
     let rows = rows();
     for word in std::env::args().skip(1) {
