@@ -22,3 +22,4 @@ pub mod Sharp
 pub mod WrongBounds
 pub mod Rows
 pub mod RoundTrip
+pub mod InitReplies

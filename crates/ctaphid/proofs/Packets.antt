@@ -42,7 +42,7 @@ module _ (p : List ℕ) where
 -- ---- a packet that was written
 
 -- a number put together from its bytes
-four-is : (c : ℕ) → c < 2 ^ 32 → c / 0x100_0000 * 0x100_0000 + c / 0x1_0000 % 0x100 * 0x1_0000 + c / 0x100 % 0x100 * 0x100 + c % 0x100 ≡ c
+pub four-is : (c : ℕ) → c < 2 ^ 32 → c / 0x100_0000 * 0x100_0000 + c / 0x1_0000 % 0x100 * 0x1_0000 + c / 0x100 % 0x100 * 0x100 + c % 0x100 ≡ c
 four-is c h = omega arith
 
 pub read-written : (p : Packet) → Formed p → read (written p) ≡ p

@@ -11,7 +11,9 @@ use Rattle.ctaphid.specs.Commands.{INIT, KEEPALIVE, number}
 use Rattle.ctaphid.specs.Limits.{largest}
 use Rattle.ctaphid.specs.Packets.{Packet, initialization, continuation, byte, channelIn, read}
 use Rattle.ctaphid.specs.Messages.{wire}
+use Rattle.ctaphid.specs.Capabilities.{capabilities}
 use Rattle.ctaphid.specs.Receiver.{channelOf, putTogether}
+use Rattle.ctaphid.specs.Transport.{Settings, initReply}
 
 -- a reply that is begun: what its initialization packet said, the bytes collected so far, and the sequence number that is due
 pub record Begun : Type 0 where
@@ -93,7 +95,7 @@ after c space s (p ∷ rest) = after c space (hear c space s (read p) .collectio
 
 -- ---- the reply to INIT
 
--- §11.2.9.1.3
+-- §11.2.9.1.3: the fields, and what follows them, of which nothing is said
 pub record InitFields : Type 0 where
   pub nonce : List ℕ
   pub channel : ℕ
@@ -102,12 +104,13 @@ pub record InitFields : Type 0 where
   pub minor : ℕ
   pub build : ℕ
   pub flags : ℕ
+  pub rest : List ℕ
 
 pub data InitHeard : Type 0 where
   notInit : (number : ℕ) → InitHeard
   initFields : InitFields → InitHeard
 
--- §11.2.9.1.3: 8 bytes of nonce, the channel (4), protocol version, device version (3) and capabilities
+-- §11.2.9.1.3: 8 bytes of nonce, the channel (4), protocol version, device version (3) and capabilities: 17 bytes. Later versions may add fields after these
 abbrev pub initFieldsOf : List ℕ → InitFields
 initFieldsOf payload =
     record {
@@ -118,14 +121,25 @@ initFieldsOf payload =
       minor = byte payload 14;
       build = byte payload 15;
       flags = byte payload 16;
+      rest = drop 17 payload;
     }
 
--- refusal 11: no reply to INIT, or not of exactly 17 bytes (DIFFERENCES 26)
+-- §11.2.9.1.3: a host takes a longer reply too, up to what a message holds (§11.2.4). Refusal 11: no reply to INIT, fewer than 17 bytes, or more than 7,609
 unfoldable pub initOf : (command : ℕ) → List ℕ → InitHeard
 initOf cmd payload =
     refusing notInit
-    ((not (eqb cmd (number INIT)), 11) ∷ (not (eqb (length payload) 17), 11) ∷ [])
+    ((not (eqb cmd (number INIT)), 11) ∷ (ltb (length payload) 17, 11) ∷ (ltb largest (length payload), 11) ∷ [])
     (initFields (initFieldsOf payload))
+
+-- what that comes to. Numbers are bare here
+pub record ReadsInit : Type 0 where
+  -- a device's reply is read as it was meant, whatever a later version adds
+  pub read-back : (nonce : List ℕ) (c : ℕ) (set : Settings) (added : List ℕ) → length nonce ≡ 8 → c < 2 ^ 32 → length added ≤ 7592
+      → initOf 0x06 (initReply nonce c set ++ added)
+      ≡ initFields (record { nonce = nonce; channel = c; protocol = 2; major = 1; minor = 0; build = 0; flags = capabilities (set .u2f); rest = added })
+  pub another : (cmd : ℕ) (payload : List ℕ) → (cmd ≡ 0x06 → ⊥) → initOf cmd payload ≡ notInit 11
+  pub short : (payload : List ℕ) → length payload ≤ 16 → initOf 0x06 payload ≡ notInit 11
+  pub long : (payload : List ℕ) → 7610 ≤ length payload → initOf 0x06 payload ≡ notInit 11
 
 -- ---- the round trip: a message that is cut into packets, and read with none begun, is given back
 

@@ -25,7 +25,7 @@ refusalNumber LongPing = 8
 refusalNumber Sequence = 9
 -- host: a KEEPALIVE's declared length isn't 1, or another command's is above 7,609 or the host buffer
 refusalNumber LongReply = 10
--- host: not an INIT reply of exactly 17 bytes
+-- host: not an INIT reply, or one of under 17 or above 7,609 bytes
 refusalNumber NotInit = 11
 -- a command above 127 to be sent
 refusalNumber Command = 12

@@ -1,8 +1,11 @@
 -- What each `return` of the C boundary meets. Assumes nothing.
 use Prim.Native.Nat.{ℕ}
+use native.Mathlib.Omega.{arith}
 use mathlib.Core.Path.{_≡_, refl, sym, ap, _∙_}
 use mathlib.Core.List.{List}
+use lib.ListN.{length}
 use Rattle.ctaphid.specs.Commands.{number}
+use Rattle.ctaphid.specs.Host.{InitHeard, notInit, initFields}
 use Rattle.packet.specs.Numbers.{commandMeant}
 use Rattle.packet.specs.Reading.{readingOf, said, fieldOf}
 use Rattle.packet.specs.declared.command.CtapHidCommand.{CtapHidCommand}
@@ -28,6 +31,8 @@ use Rattle.hid.specs.declared.Ready.the-variants as ready
 use Rattle.hid.specs.declared.MainReady.{MainReady}
 use Rattle.hid.specs.declared.MainReady.the-variants as mainReady
 use Rattle.host.specs.Reading.{Reading as HostReading, reading as hostReading}
+use Rattle.host.specs.Meaning.{initReplyOf}
+use Rattle.host.specs.Init.{restOf}
 use Rattle.host.specs.declared.Progress.{Progress}
 use Rattle.host.specs.declared.Answer.{Answer as HostAnswer}
 use Rattle.host.specs.declared.Answer.the-variants as host
@@ -35,7 +40,7 @@ use Rattle.host.specs.declared.InitReply.{InitReply}
 use Rattle.host.specs.declared.InitAnswer.the-variants as init
 use Rattle.flat.specs.declared.Outcome.{Outcome}
 use Rattle.flat.specs.declared.InitOutcome.{InitOutcome}
-use Rattle.flat.specs.Telling.{told, refusedBy, outcomeOf, packetOutcome, readOutcome, countOutcome, runningNumber, writtenNumber, madeOf, mainMadeOf, flat, flatOf, mainFlat, mainFlatOf, put, putOf, hostOutcomeOf, hostFlat, hostFlatOf, noFields, fieldsTold, initOutcomeOf}
+use Rattle.flat.specs.Telling.{told, refusedBy, outcomeOf, packetOutcome, readOutcome, countOutcome, runningNumber, writtenNumber, madeOf, mainMadeOf, flat, flatOf, mainFlat, mainFlatOf, put, putOf, hostOutcomeOf, hostFlat, hostFlatOf, noFields, initOutcomeOf}
 
 -- ---- an answer
 module _ (a : Answer) (x : Outcome) where
@@ -130,11 +135,16 @@ module _ (a : HostAnswer) (x : Outcome) where
 pub host-flat : (s : Progress) (m : List ℕ) (o : Outcome) (y : HostReading) → hostReading s m ≡ y → o ≡ hostOutcomeOf (s .answer) → hostFlat (record { collection = s .collection; outcome = o }) m ≡ hostFlatOf y
 host-flat s m o y e k = ap (λ (t : Outcome). hostFlat (record { collection = s .collection; outcome = t }) m) k ∙ ap hostFlatOf e
 
-module _ (x y : InitReply) (e : x ≡ y) where
-  pub init-refused : (o : InitOutcome) {n : ℕ} → x .answer ≡ init.Refused n → o ≡ noFields n → o ≡ initOutcomeOf y
-  init-refused o k h = h ∙ (sym (ap (fieldsTold (x .nonce)) k) ∙ ap initOutcomeOf e)
+-- a reply to INIT: what the host's `init_reply` and `init_rest` hand back is told together
+pub init-refused : (h : InitHeard) (x : InitReply) → x ≡ initReplyOf h → (o : InitOutcome) {n : ℕ} → x .answer ≡ init.Refused n → o ≡ noFields n → o ≡ initOutcomeOf h
+init-refused (notInit number) x e o {n} k q = let is : n ≡ number = cc in q ∙ ap noFields is
+init-refused (initFields f) x e o {n} k q = let z : _≡_ {A = ℕ} 0 1 = cc in absurd (omega arith)
 
-  pub init-told : {cid protocol major minor build capabilities : ℕ} → x .answer ≡ init.Fields cid protocol major minor build capabilities → fieldsTold (x .nonce) (init.Fields cid protocol major minor build capabilities) ≡ initOutcomeOf y
-  init-told k = sym (ap (fieldsTold (x .nonce)) k) ∙ ap initOutcomeOf e
+pub init-told : (h : InitHeard) (x : InitReply) → x ≡ initReplyOf h → (rest : List ℕ) → rest ≡ restOf h
+    → {cid protocol major minor build capabilities : ℕ} → x .answer ≡ init.Fields cid protocol major minor build capabilities
+    → record { cid = cid; protocol = protocol; major = major; minor = minor; build = build; capabilities = capabilities; refusal = 0; rest = length rest; nonce = x .nonce }
+    ≡ initOutcomeOf h
+init-told (notInit number) x e rest r k = let z : _≡_ {A = ℕ} 0 1 = cc in absurd (omega arith)
+init-told (initFields f) x e rest r k = cc
 
 pub ruleset telling = (tells-refused, tells-nothing, tells-message, tells-echo, tells-reply, steps-flat, main-steps-flat, runs, makes, makes-none, main-makes, main-makes-none, tells-first, tells-later, reads, reads-none, counts, counts-none, puts, tells-host-refused, tells-ignored, tells-keepalive, tells-waiting, tells-collected, host-flat, init-refused, init-told)

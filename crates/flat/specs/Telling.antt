@@ -2,10 +2,11 @@
 use Prim.Native.Nat.{ℕ}
 use mathlib.Core.List.{List}
 use mathlib.Core.Bool.{Bool, not}
-use lib.ListN.{replicate}
+use lib.ListN.{length, replicate}
 use lib.Dec.{eqb}
 use Rattle.ctaphid.specs.Commands.{number}
 use Rattle.ctaphid.specs.Packets.{initialization, continuation}
+use Rattle.ctaphid.specs.Host.{InitHeard, notInit, initFields}
 use Rattle.packet.specs.Numbers.{commandMeant}
 use Rattle.packet.specs.Reading.{Read, refused, packet}
 use Rattle.packet.specs.declared.ProcessedPacket.{ProcessedPacket}
@@ -30,9 +31,6 @@ use Rattle.hid.specs.declared.MainReady.the-variants as mainReady
 use Rattle.host.specs.Reading.{Reading}
 use Rattle.host.specs.declared.Answer.{Answer as HostAnswer}
 use Rattle.host.specs.declared.Answer.the-variants as host
-use Rattle.host.specs.declared.InitReply.{InitReply}
-use Rattle.host.specs.declared.InitAnswer.{InitAnswer}
-use Rattle.host.specs.declared.InitAnswer.the-variants as init
 use Rattle.flat.specs.declared.Outcome.{Outcome}
 use Rattle.flat.specs.declared.FlatHid.{FlatHid}
 use Rattle.flat.specs.declared.FlatMain.{FlatMain}
@@ -147,15 +145,22 @@ abbrev pub hostFlatOf : Reading → HostFlattened
 hostFlatOf x =
     hostFlat (record { collection = x .progress .collection; outcome = hostOutcomeOf (x .progress .answer) }) (x .buffer)
 
--- a reply to INIT: its fields, or the refusal and nothing else
+-- a reply to INIT: its fields, and how many bytes follow; or the refusal and nothing else
 abbrev pub noFields : ℕ → InitOutcome
 noFields number =
-    record { cid = 0; protocol = 0; major = 0; minor = 0; build = 0; capabilities = 0; refusal = number; spare = 0; nonce = replicate 8 0 }
+    record { cid = 0; protocol = 0; major = 0; minor = 0; build = 0; capabilities = 0; refusal = number; rest = 0; nonce = replicate 8 0 }
 
-abbrev pub fieldsTold : (nonce : List ℕ) → InitAnswer → InitOutcome
-fieldsTold nonce (init.Refused n) = noFields n
-fieldsTold nonce (init.Fields cid protocol major minor build capabilities) =
-    record { cid = cid; protocol = protocol; major = major; minor = minor; build = build; capabilities = capabilities; refusal = 0; spare = 0; nonce = nonce }
-
-abbrev pub initOutcomeOf : InitReply → InitOutcome
-initOutcomeOf x = fieldsTold (x .nonce) (x .answer)
+abbrev pub initOutcomeOf : InitHeard → InitOutcome
+initOutcomeOf (notInit number) = noFields number
+initOutcomeOf (initFields f) =
+    record {
+      cid = f .channel;
+      protocol = f .protocol;
+      major = f .major;
+      minor = f .minor;
+      build = f .build;
+      capabilities = f .flags;
+      refusal = 0;
+      rest = length (f .rest);
+      nonce = f .nonce;
+    }

@@ -18,7 +18,6 @@ ghost use Rattle.hid.specs.SetUp.{newOf, mainNewOf};
 ghost use Rattle.hid.specs.Questions.{lockedOf, winkingOf};
 ghost use Rattle.ctaphid.specs.Host.{initOf};
 ghost use Rattle.packet.specs.Reading.{readingOf};
-ghost use Rattle.host.specs.Meaning.{initReplyOf};
 ghost use Rattle.host.specs.Reading.{readOf};
 ghost use Rattle.send.specs.Sending.{countOf, writeOf, splitOf};
 ghost use Rattle.flat.specs.Telling.{isSet, outcomeOf, readOutcome, countOutcome, runningNumber, packetOutcome, writtenNumber, madeOf, mainMadeOf, flat, flatOf, mainFlat, mainFlatOf, put, putOf, hostOutcomeOf, hostFlat, hostFlatOf, initOutcomeOf, noFields};
@@ -315,7 +314,7 @@ pub fn host_read(
     }
 }
 
-// The fields of a reply to INIT. refusal is 0, or 11, and then all else is 0.
+// The fields of a reply to INIT, and how many bytes follow: they begin at byte 17. refusal is 0, or 11, and then all else is 0.
 #[repr(C)]
 pub struct InitOutcome {
     pub cid: u32,
@@ -325,12 +324,12 @@ pub struct InitOutcome {
     pub build: u8,
     pub capabilities: u8,
     pub refusal: u8,
-    pub spare: u16,
+    pub rest: u16,
     pub nonce: [u8; 8],
 }
 
 pub fn init_reply(cmd: u8, payload: &[u8]) -> InitOutcome
-    ensures { λ r. ⌜ r ≡ initOutcomeOf (initReplyOf (initOf cmd (now (payload .entry)))) ⌝ }
+    ensures { λ r. ⌜ r ≡ initOutcomeOf (initOf cmd (now (payload .entry))) ⌝ }
 {
     let reply = host::init_reply(cmd, payload);
     let nonce = reply.nonce;
@@ -352,7 +351,7 @@ pub fn init_reply(cmd: u8, payload: &[u8]) -> InitOutcome
             build,
             capabilities,
             refusal: 0,
-            spare: 0,
+            rest: host::init_rest(cmd, payload).len() as u16,
             nonce,
         },
     }
@@ -369,7 +368,7 @@ fn no_fields(number: u8) -> InitOutcome
         build: 0,
         capabilities: 0,
         refusal: number,
-        spare: 0,
+        rest: 0,
         nonce: [0; 8],
     }
 }

@@ -1,17 +1,21 @@
--- The fields of a reply to INIT. Assumes nothing.
-use Prim.Native.Nat.{ℕ, _+_, _*_, _≤_}
+-- The fields of a reply to INIT, and which replies are taken. Assumes nothing.
+use Prim.Native.Nat.{ℕ, _+_, _*_, _≤_, _<_}
+use native.Mathlib.Nat.{zero-add}
 use native.Mathlib.Omega.{arith}
-use mathlib.Core.Path.{_≡_, refl, sym, _∙_}
+use mathlib.Core.Path.{_≡_, refl, sym, ap, _∙_}
 use mathlib.Core.List.{List, [], _∷_}
-use borrow.Author.Tests.{eq-eqb, ne-eqb}
-use lib.ListN.{length, take, drop}
+use mathlib.Core.Bool.{Bool, true, false, true≢false}
+use lib.ListN.{length, take, drop, length-drop}
 use lib.Seq.{getD-drop}
-use Rattle.ctaphid.specs.Choice.{pick}
+use Rattle.ctaphid.specs.Limits.{largest}
 use Rattle.ctaphid.specs.Packets.{byte, channelIn}
-use Rattle.ctaphid.specs.Host.{initOf, initFields, initFieldsOf}
+use Rattle.ctaphid.specs.Host.{InitHeard, notInit, initFields, initFieldsOf, initOf}
+use Rattle.packet.specs.Reading.{ahead}
+use Rattle.ctaphid.proofs.InitReplies.{init-another, init-short, init-long, init-taken, init-known}
 use Rattle.host.specs.declared.InitReply.{InitReply}
 use Rattle.host.specs.declared.InitAnswer.the-variants.{Refused, Fields}
 use Rattle.host.specs.Meaning.{initReplyOf}
+use Rattle.host.specs.Init.{isTaken, restOf, beforeRest, Agree, Agrees}
 
 -- the first eight bytes, one by one
 abbrev eight : List ℕ → List ℕ
@@ -32,22 +36,65 @@ channel-at-8 : (p : List ℕ) → byte p 8 * 0x100_0000 + byte p 9 * 0x1_0000 + 
 unfolding channelIn
 channel-at-8 p = sym (rw (getD-drop 8 p 0 0, getD-drop 8 p 1 0, getD-drop 8 p 2 0, getD-drop 8 p 3 0))
 
-pub fields-are : (p : List ℕ) → length p ≡ 17 → {cid : ℕ} → cid ≡ byte p 8 * 0x100_0000 + byte p 9 * 0x1_0000 + byte p 10 * 0x100 + byte p 11
+pub fields-are : (p : List ℕ) → 17 ≤ length p → {cid : ℕ} → cid ≡ byte p 8 * 0x100_0000 + byte p 9 * 0x1_0000 + byte p 10 * 0x100 + byte p 11
     → (r : InitReply) → r ≡ record { nonce = eight p; answer = Fields cid (byte p 12) (byte p 13) (byte p 14) (byte p 15) (byte p 16) }
     → r ≡ initReplyOf (initFields (initFieldsOf p))
 fields-are p n {cid} e r k =
     k ∙ (λ i. record { nonce = take-eight p (omega arith) i; answer = Fields ((e ∙ channel-at-8 p) i) (byte p 12) (byte p 13) (byte p 14) (byte p 15) (byte p 16) })
 
--- ---- refusal 11
-module _ (cmd : ℕ) (p : List ℕ) (r : InitReply) where
-  pub init-other : (cmd ≡ 6 → ⊥) → r ≡ record { nonce = 0 ∷ 0 ∷ 0 ∷ 0 ∷ 0 ∷ 0 ∷ 0 ∷ 0 ∷ []; answer = Refused 11 } → r ≡ initReplyOf (initOf cmd p)
-  unfolding initOf pick
-  init-other n e = simp (ne-eqb cmd 6 n) e
+-- ---- which replies are taken
+module _ (cmd : ℕ) (p : List ℕ) where
+  pub another-none : (cmd ≡ 6 → ⊥) → false ≡ isTaken (initOf cmd p)
+  another-none n = sym (ap isTaken (init-another cmd p n))
 
-  pub init-size : cmd ≡ 6 → (length p ≡ 17 → ⊥) → r ≡ record { nonce = 0 ∷ 0 ∷ 0 ∷ 0 ∷ 0 ∷ 0 ∷ 0 ∷ 0 ∷ []; answer = Refused 11 } → r ≡ initReplyOf (initOf cmd p)
-  unfolding initOf pick
-  init-size is n e = simp (eq-eqb cmd 6 is, ne-eqb (length p) 17 n) e
+  module _ (is : cmd ≡ 6) where
+    pub short-none : length p < 17 → false ≡ isTaken (initOf cmd p)
+    short-none h = sym (ap isTaken (init-short cmd p is h))
 
-  pub init-whole : cmd ≡ 6 → length p ≡ 17 → r ≡ initReplyOf (initFields (initFieldsOf p)) → r ≡ initReplyOf (initOf cmd p)
-  unfolding initOf pick
-  init-whole is n e = simp (eq-eqb cmd 6 is, eq-eqb (length p) 17 n) e
+    pub long-none : 17 ≤ length p → largest < length p → false ≡ isTaken (initOf cmd p)
+    long-none h k = sym (ap isTaken (init-long cmd p is h k))
+
+    pub others-taken : 17 ≤ length p → length p ≤ largest → true ≡ isTaken (initOf cmd p)
+    others-taken h k = sym (ap isTaken (init-taken cmd p is h k))
+
+  -- what that says of the reply
+  taken-is : isTaken (initOf cmd p) ≡ true → (17 ≤ length p) × (initOf cmd p ≡ initFields (initFieldsOf p))
+  taken-is =
+      init-known cmd p (λ (h : InitHeard). isTaken h ≡ true → (17 ≤ length p) × (h ≡ initFields (initFieldsOf p))) (λ e. absurd (true≢false (sym e))) (λ h k e. (h, refl))
+
+  none-is : isTaken (initOf cmd p) ≡ false → initOf cmd p ≡ notInit 11
+  none-is = init-known cmd p (λ (h : InitHeard). isTaken h ≡ false → h ≡ notInit 11) (λ e. refl) (λ h k e. absurd (true≢false e))
+
+  pub rest-most : (r : List ℕ) → r ≡ restOf (initOf cmd p) → length r ≤ 7592
+  rest-most r e = rw e (init-known cmd p (λ (h : InitHeard). length (restOf h) ≤ 7592) (omega arith) (λ h k. simp length-drop (omega arith)))
+
+-- ---- what both functions make of it
+module _ (cmd : ℕ) (p : List ℕ) (b : Bool) (is : b ≡ isTaken (initOf cmd p)) where
+  pub taken-long : b ≡ true → 17 ≤ length p
+  taken-long e = taken-is cmd p (sym is ∙ e) .0
+
+  pub taken-read : b ≡ true → initOf cmd p ≡ initFields (initFieldsOf p)
+  taken-read e = taken-is cmd p (sym is ∙ e) .1
+
+  pub none-read : b ≡ false → initOf cmd p ≡ notInit 11
+  none-read e = none-is cmd p (sym is ∙ e)
+
+  pub reply-taken : b ≡ true → (r : InitReply) → r ≡ initReplyOf (initFields (initFieldsOf p)) → r ≡ initReplyOf (initOf cmd p)
+  reply-taken e r k = k ∙ sym (ap initReplyOf (taken-read e))
+
+  pub reply-none : b ≡ false → (r : InitReply) → r ≡ record { nonce = 0 ∷ 0 ∷ 0 ∷ 0 ∷ 0 ∷ 0 ∷ 0 ∷ 0 ∷ []; answer = Refused 11 } → r ≡ initReplyOf (initOf cmd p)
+  reply-none e r k = k ∙ sym (ap initReplyOf (none-read e))
+
+-- ---- they agree
+pub agrees : Agrees
+agrees cmd p r x e i =
+    init-known cmd (p .now) (λ (h : InitHeard). x ≡ initReplyOf h → r .now ≡ restOf h → r .ptr ≡ ahead (beforeRest h) (p .ptr) → Agree p r x)
+    (λ k bytes place. record {
+      refused = λ number is. (bytes, place ∙ simp zero-add);
+      taken = λ cid protocol major minor build capabilities is. let z : _≡_ {A = ℕ} 0 1 = cc in absurd (omega arith);
+    })
+    (λ low high k bytes place. record {
+      refused = λ number is. let z : _≡_ {A = ℕ} 0 1 = cc in absurd (omega arith);
+      taken = λ cid protocol major minor build capabilities is. (bytes, place);
+    })
+    e (i .bytes) (i .place)

@@ -1,28 +1,53 @@
-// The reply to INIT.
+// The reply to INIT: its fields, and what follows them.
 use crate::InitAnswer;
 use crate::InitReply;
 use packet::CtapHidCommand;
+use packet::Limits;
 use packet::Refusal;
 ghost use mathlib.Core.Path.{_≡_};
 ghost use mathlib.Core.List.{[], _∷_};
+ghost use Prim.Native.Nat.{_≤_};
 ghost use Rattle.ctaphid.specs.Host.{initOf, initFields, initFieldsOf};
 ghost use lib.ListN.{length};
 ghost use Rattle.host.specs.Meaning.{initReplyOf};
+ghost use Rattle.host.specs.Init.{isTaken, IsRest};
 
-// The fields of a reply to INIT. What is no such reply, or not of exactly 17 bytes, is refused with 11.
+// The fields of a reply to INIT. What is no such reply, or has fewer than 17 bytes or more than 7,609, is refused with 11.
 pub fn init_reply(cmd: u8, payload: &[u8]) -> InitReply
     ensures { λ r. ⌜ r ≡ initReplyOf (initOf cmd (now (payload .entry))) ⌝ }
 {
-    if cmd != CtapHidCommand::INIT {
-        return no_reply();
+    if is_init_reply(cmd, payload) {
+        return fields(payload);
     }
-    if payload.len() != INIT_REPLY_SIZE {
-        return no_reply();
-    }
-    fields(payload)
+    no_reply()
 }
 
-const INIT_REPLY_SIZE: usize = 17;
+// The bytes behind the fields, which later versions may add, as the payload's own. What init_reply refuses has none.
+pub fn init_rest(cmd: u8, payload: &[u8]) -> &[u8]
+    ensures { λ r. ⌜ IsRest cmd (payload .entry) r ⌝ }
+{
+    if is_init_reply(cmd, payload) {
+        return &payload[FIELDS_SIZE..];
+    }
+    &payload[..0]
+}
+
+const FIELDS_SIZE: usize = 17;
+
+fn is_init_reply(cmd: u8, payload: &[u8]) -> bool
+    ensures { λ r. ⌜ r ≡ isTaken (initOf cmd (now (payload .entry))) ⌝ }
+{
+    if cmd != CtapHidCommand::INIT {
+        return false;
+    }
+    if payload.len() < FIELDS_SIZE {
+        return false;
+    }
+    if payload.len() > Limits::LARGEST_PAYLOAD {
+        return false;
+    }
+    true
+}
 
 fn no_reply() -> InitReply
     ensures { λ r. ⌜ r ≡ record { nonce = 0 ∷ 0 ∷ 0 ∷ 0 ∷ 0 ∷ 0 ∷ 0 ∷ 0 ∷ []; answer = InitAnswer.Refused 11 } ⌝ }
@@ -34,7 +59,7 @@ fn no_reply() -> InitReply
 }
 
 fn fields(payload: &[u8]) -> InitReply
-    requires { ⌜ length (now payload) ≡ 17 ⌝ }
+    requires { ⌜ 17 ≤ length (now payload) ⌝ }
     ensures { λ r. ⌜ r ≡ initReplyOf (initFields (initFieldsOf (now (payload .entry)))) ⌝ }
 {
     let cid = packet::be32(payload[8], payload[9], payload[10], payload[11]);

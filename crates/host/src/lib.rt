@@ -5,6 +5,7 @@ mod reading;
 mod soundness;
 
 pub use init::init_reply;
+pub use init::init_rest;
 
 // A reply that is being collected, as numbers without padding, so that one type serves Rattle, Rust and C. len is the declared length, and 0 where no reply
 // is begun: a begun one has more than 57 bytes.

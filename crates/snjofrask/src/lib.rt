@@ -11,7 +11,6 @@ ghost use Rattle.hid.specs.SetUp.{newOf, mainNewOf};
 ghost use Rattle.hid.specs.Questions.{lockedOf, winkingOf};
 ghost use Rattle.ctaphid.specs.Host.{initOf};
 ghost use Rattle.packet.specs.Reading.{readingOf};
-ghost use Rattle.host.specs.Meaning.{initReplyOf};
 ghost use Rattle.host.specs.Reading.{readOf};
 ghost use Rattle.send.specs.Sending.{countOf, writeOf, splitOf};
 ghost use Rattle.flat.specs.Telling.{isSet, readOutcome, countOutcome, runningNumber, madeOf, mainMadeOf, flat, flatOf, mainFlat, mainFlatOf, put, putOf, hostFlat, hostFlatOf, initOutcomeOf};
@@ -151,10 +150,10 @@ pub extern "C" fn snjofrask_host_read(
     progress.outcome
 }
 
-// The fields of a reply to INIT, from its command and payload, or refusal 11.
+// The fields of a reply to INIT, from its command and payload, and how many bytes follow them; or refusal 11.
 #[no_mangle]
 pub extern "C" fn snjofrask_init_reply(cmd: u8, payload: &[u8]) -> InitOutcome
-    ensures { λ r. ⌜ r ≡ initOutcomeOf (initReplyOf (initOf cmd (now (payload .entry)))) ⌝ }
+    ensures { λ r. ⌜ r ≡ initOutcomeOf (initOf cmd (now (payload .entry))) ⌝ }
 {
     flat::init_reply(cmd, payload)
 }

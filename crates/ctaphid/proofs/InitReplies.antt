@@ -1,0 +1,80 @@
+-- The reply to INIT: which replies a host takes, and that a device's is read as it was meant. Assumes nothing.
+use Prim.Native.Nat.{ℕ, _+_, _≤_, _<_, _^_}
+use native.Mathlib.Omega.{arith}
+use mathlib.Core.Path.{_≡_, refl, ap, _∙_}
+use mathlib.Core.List.{List, [], _∷_, _++_, append-assoc}
+use borrow.Author.Tests.{lt-ltb, le-ltb, ltb-false, eq-eqb, ne-eqb}
+use lib.ListN.{length, drop, length-append}
+use lib.Seq.{take-at, drop-at, getD-append-add, drop-append-add}
+use Rattle.ctaphid.specs.Choice.{pick}
+use Rattle.ctaphid.specs.Capabilities.{capabilities}
+use Rattle.ctaphid.specs.Limits.{largest}
+use Rattle.ctaphid.specs.Packets.{byte, channelIn, four}
+use Rattle.ctaphid.specs.Transport.{Settings, initReply}
+use Rattle.ctaphid.specs.Host.{InitHeard, notInit, initFields, initFieldsOf, initOf, ReadsInit}
+use Rattle.ctaphid.proofs.Tests.{pick-known}
+use Rattle.ctaphid.proofs.Packets.{four-is}
+
+module _ (cmd : ℕ) (p : List ℕ) where
+  pub init-another : (cmd ≡ 6 → ⊥) → initOf cmd p ≡ notInit 11
+  unfolding initOf pick
+  init-another n = simp (ne-eqb cmd 6 n)
+
+  module _ (is : cmd ≡ 6) where
+    pub init-short : length p < 17 → initOf cmd p ≡ notInit 11
+    unfolding initOf pick
+    init-short h = simp (eq-eqb cmd 6 is, lt-ltb (length p) 17 h)
+
+    pub init-long : 17 ≤ length p → largest < length p → initOf cmd p ≡ notInit 11
+    unfolding initOf pick
+    init-long h k = simp (eq-eqb cmd 6 is, le-ltb (length p) 17 h, lt-ltb largest (length p) k)
+
+    pub init-taken : 17 ≤ length p → length p ≤ largest → initOf cmd p ≡ initFields (initFieldsOf p)
+    unfolding initOf pick
+    init-taken h k = simp (eq-eqb cmd 6 is, le-ltb (length p) 17 h, le-ltb largest (length p) k)
+
+  -- what holds of the refusal, and of the fields where they are read, holds of either
+  pub init-known : (P : InitHeard → Type 0) → P (notInit 11) → (17 ≤ length p → length p ≤ largest → P (initFields (initFieldsOf p))) → P (initOf cmd p)
+  unfolding initOf
+  init-known P none taken =
+      pick-known P _ _ _
+      (λ e. none)
+      (λ e. pick-known P _ _ _ (λ s. none) (λ s. pick-known P _ _ _ (λ l. none) (λ l. taken (ltb-false (length p) 17 s) (ltb-false largest (length p) l))))
+
+-- ---- what stands behind a nonce
+module _ (nonce t : List ℕ) (size : length nonce ≡ 8) where
+  behind : (k : ℕ) → byte (nonce ++ t) (8 + k) ≡ byte t k
+  behind k = rw size at (getD-append-add nonce t k 0)
+
+  fields-behind : initFieldsOf (nonce ++ t)
+      ≡ record { nonce = nonce; channel = channelIn t; protocol = byte t 4; major = byte t 5; minor = byte t 6; build = byte t 7; flags = byte t 8; rest = drop 9 t }
+  fields-behind = λ i. record {
+    nonce = take-at nonce t 8 size i;
+    channel = channelIn (drop-at nonce t 8 size i);
+    protocol = behind 4 i;
+    major = behind 5 i;
+    minor = behind 6 i;
+    build = behind 7 i;
+    flags = behind 8 i;
+    rest = (rw size at (drop-append-add nonce t 9)) i;
+  }
+
+read-back : (nonce : List ℕ) (c : ℕ) (set : Settings) (added : List ℕ) → length nonce ≡ 8 → c < 2 ^ 32 → length added ≤ 7592
+    → initOf 6 (initReply nonce c set ++ added)
+    ≡ initFields (record { nonce = nonce; channel = c; protocol = 2; major = 1; minor = 0; build = 0; flags = capabilities (set .u2f); rest = added })
+unfolding channelIn
+read-back nonce c set added size below most =
+    let t = four c ++ (2 ∷ 1 ∷ 0 ∷ 0 ∷ capabilities (set .u2f) ∷ added) in
+    let long : length (nonce ++ t) ≡ 17 + length added = simp length-append (omega arith) in
+    ap (initOf 6) (append-assoc nonce (four c ++ (2 ∷ 1 ∷ 0 ∷ 0 ∷ capabilities (set .u2f) ∷ [])) added)
+    ∙ (init-taken 6 (nonce ++ t) refl (omega arith) (omega arith)
+    ∙ (ap initFields (fields-behind nonce t size)
+    ∙ (λ i. initFields (record { nonce = nonce; channel = four-is c below i; protocol = 2; major = 1; minor = 0; build = 0; flags = capabilities (set .u2f); rest = added }))))
+
+pub reads-init : ReadsInit
+reads-init = record {
+  read-back = read-back;
+  another = init-another;
+  short = λ p h. init-short 6 p refl (omega arith);
+  long = λ p h. init-long 6 p refl (omega arith) (omega arith);
+}
