@@ -11,10 +11,10 @@ is-init-reply-requires : tie.Need-is-init-reply-requires
 is-init-reply-requires c κs = search needs
 
 sub-result : tie.Need-sub-result
-sub-result c = search (taken-long, needs)
+sub-result c = omega (arith, taken-long _ _ _ (c .before .is-init-reply .ensures) (c .if1 .taken))
 
 part-result-start : tie.Need-part-result-start
-part-result-start c = search (taken-long, needs)
+part-result-start c = omega (arith, taken-long _ _ _ (c .before .is-init-reply .ensures) (c .if1 .taken))
 
 part-result-end : tie.Need-part-result-end
 part-result-end c = search needs
