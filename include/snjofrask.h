@@ -79,9 +79,9 @@ extern "C" {
 /* ---- numbers */
 
 /* Of the library: header and archive belong together. */
-#define SNJOFRASK_VERSION "0.2.0"
+#define SNJOFRASK_VERSION "0.3.0"
 #define SNJOFRASK_VERSION_MAJOR 0
-#define SNJOFRASK_VERSION_MINOR 2
+#define SNJOFRASK_VERSION_MINOR 3
 #define SNJOFRASK_VERSION_PATCH 0
 
 /* Limits: bytes and milliseconds. */
@@ -91,7 +91,8 @@ extern "C" {
 #define SNJOFRASK_WINK_TIMEOUT_MS 5000
 #define SNJOFRASK_LAST_TIME_MS 0xFFFFFFFFFFFF
 
-/* The short reply buffer has at least this many bytes, and the reply to INIT exactly so many. */
+/* The short reply buffer has at least this many bytes, and a device's reply to INIT exactly so many. What a host reads as one
+   has at least so many. */
 #define SNJOFRASK_SHORT_REPLY_SIZE 17
 
 /* What the reply to INIT says before the capabilities: the version of CTAPHID, and of the device. All four are fixed, as in
@@ -144,7 +145,7 @@ extern "C" {
 #define SNJOFRASK_REFUSAL_LONG_PING 8        /* no entry gives it: a device's maximum keeps PINGs shorter */
 #define SNJOFRASK_REFUSAL_SEQUENCE 9         /* host: a wrong number, or a first packet inside a reply */
 #define SNJOFRASK_REFUSAL_LONG_REPLY 10      /* host: a reply that the buffer can't hold, or a KEEPALIVE not of 1 byte */
-#define SNJOFRASK_REFUSAL_NOT_INIT 11        /* host: not a reply to INIT of exactly 17 bytes */
+#define SNJOFRASK_REFUSAL_NOT_INIT 11        /* host: not a reply to INIT, or one below 17 or above 7,609 bytes */
 #define SNJOFRASK_REFUSAL_COMMAND 12         /* a command above 127 to be sent */
 
 /* Kinds of outcome, and which fields say something. The others are 0. */
@@ -208,7 +209,8 @@ typedef struct snjofrask_outcome {
     uint8_t spare;
 } snjofrask_outcome;
 
-/* What a reply to INIT tells. With a refusal all else is 0. */
+/* What a reply to INIT tells. rest: how many bytes follow these fields, from byte 17 of the payload on. With a refusal all
+   else is 0. */
 typedef struct snjofrask_init_outcome {
     uint32_t cid;
     uint8_t protocol;
@@ -217,7 +219,7 @@ typedef struct snjofrask_init_outcome {
     uint8_t build;
     uint8_t capabilities;
     uint8_t refusal;
-    uint16_t spare;
+    uint16_t rest;
     uint8_t nonce[8];
 } snjofrask_init_outcome;
 
@@ -274,7 +276,7 @@ SNJOFRASK_ASSERT(offsetof(snjofrask_init_outcome, minor) == 6);
 SNJOFRASK_ASSERT(offsetof(snjofrask_init_outcome, build) == 7);
 SNJOFRASK_ASSERT(offsetof(snjofrask_init_outcome, capabilities) == 8);
 SNJOFRASK_ASSERT(offsetof(snjofrask_init_outcome, refusal) == 9);
-SNJOFRASK_ASSERT(offsetof(snjofrask_init_outcome, spare) == 10);
+SNJOFRASK_ASSERT(offsetof(snjofrask_init_outcome, rest) == 10);
 SNJOFRASK_ASSERT(offsetof(snjofrask_init_outcome, nonce) == 12);
 
 /* ---- a device: everything but what MSG and CBOR mean */
@@ -383,7 +385,11 @@ SNJOFRASK_ENTRY
 snjofrask_outcome snjofrask_host_read(snjofrask_collection *collection, uint32_t cid, const uint8_t *packet,
                                       size_t packet_len, uint8_t *buffer, size_t buffer_len);
 
-/* The fields of a reply to INIT, by its command and payload; refusal is 0, or 11. Whether the nonce is the one that was sent is for the caller to see. */
+/*
+ * The fields of a reply to INIT, by its command and payload; refusal is 0, or 11. Whether the nonce is the one that was
+ * sent is for the caller to see. A key may send more than these fields, as later versions of the standard may add some: the
+ * rest bytes from payload + 17 on. They are not looked at, and are for the caller to read or to pass over.
+ */
 SNJOFRASK_ENTRY
 snjofrask_init_outcome snjofrask_init_reply(uint8_t cmd, const uint8_t *payload, size_t payload_len);
 

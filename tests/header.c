@@ -299,10 +299,8 @@ static snjofrask_outcome host_read(snjofrask_collection *collection, size_t buff
 
 static void hosts(void)
 {
-    static const uint8_t welcome[] = {1, 2, 3, 4, 5, 6, 7, 8, 0x12, 0x34, 0x56, 0x78, 2, 3, 4, 6, 5};
     snjofrask_collection collection;
     snjofrask_collection before;
-    snjofrask_init_outcome fields;
 
     memset(&collection, 0, sizeof collection);
     memset(message, 0xEE, sizeof message);
@@ -326,15 +324,49 @@ static void hosts(void)
     CHECK(is(host_read(&collection, 100), SNJOFRASK_KIND_COLLECTED, 0, SNJOFRASK_CMD_PING, 100));
     CHECK(memcmp(message, payload, 100) == 0 && message[100] == 0xEE && collection.len == 0);
     CHECK(is(host_read(&collection, 100), SNJOFRASK_KIND_IGNORED, 0, 0, 0));
+}
 
-    fields = snjofrask_init_reply(SNJOFRASK_CMD_INIT, welcome, sizeof welcome);
-    CHECK(fields.refusal == 0 && fields.spare == 0 && fields.cid == 0x12345678 && memcmp(fields.nonce, welcome, 8) == 0);
-    CHECK(fields.protocol == 2 && fields.major == 3 && fields.minor == 4 && fields.build == 6);
-    CHECK(fields.capabilities == (SNJOFRASK_CAPABILITY_WINK | SNJOFRASK_CAPABILITY_CBOR));
-    fields = snjofrask_init_reply(SNJOFRASK_CMD_PING, welcome, sizeof welcome);
-    CHECK(fields.refusal == SNJOFRASK_REFUSAL_NOT_INIT && fields.cid == 0 && fields.capabilities == 0 && all_are(fields.nonce, 8, 0));
-    fields = snjofrask_init_reply(SNJOFRASK_CMD_INIT, welcome, sizeof welcome - 1);
-    CHECK(fields.refusal == SNJOFRASK_REFUSAL_NOT_INIT);
+/* Whether nothing but refusal 11 is told. */
+static int is_no_init(uint8_t cmd, const uint8_t *bytes, size_t len)
+{
+    const snjofrask_init_outcome fields = snjofrask_init_reply(cmd, bytes, len);
+
+    return fields.refusal == SNJOFRASK_REFUSAL_NOT_INIT && fields.cid == 0 && fields.protocol == 0 && fields.major == 0 &&
+           fields.minor == 0 && fields.build == 0 && fields.capabilities == 0 && fields.rest == 0 && all_are(fields.nonce, 8, 0);
+}
+
+/* Of a reply to INIT, whatever follows its fields. */
+static void init_replies(void)
+{
+    static const uint8_t nonce[] = {1, 2, 3, 4, 5, 6, 7, 8};
+    static const uint8_t others[] = {0x12, 0x34, 0x56, 0x78, 2, 3, 4, 6, 5};
+    static uint8_t welcome[SNJOFRASK_LARGEST_PAYLOAD + 1];
+    snjofrask_collection collection;
+
+    memcpy(welcome, nonce, sizeof nonce);
+    memcpy(welcome + sizeof nonce, others, sizeof others);
+    for (size_t len = 17; len <= SNJOFRASK_LARGEST_PAYLOAD; len = len < 20 ? len + 1 : len + 33) {
+        const snjofrask_init_outcome fields = snjofrask_init_reply(SNJOFRASK_CMD_INIT, welcome, len);
+
+        CHECK(fields.refusal == 0 && fields.rest == len - 17);
+        CHECK(fields.cid == 0x12345678 && memcmp(fields.nonce, nonce, sizeof nonce) == 0);
+        CHECK(fields.protocol == 2 && fields.major == 3 && fields.minor == 4 && fields.build == 6);
+        CHECK(fields.capabilities == (SNJOFRASK_CAPABILITY_WINK | SNJOFRASK_CAPABILITY_CBOR));
+        memset(welcome + 17, (int)(len & 0xFF), sizeof welcome - 17);
+    }
+    CHECK(snjofrask_init_reply(SNJOFRASK_CMD_INIT, welcome, SNJOFRASK_LARGEST_PAYLOAD).rest == SNJOFRASK_LARGEST_PAYLOAD - 17);
+    CHECK(is_no_init(SNJOFRASK_CMD_INIT, welcome, SNJOFRASK_LARGEST_PAYLOAD + 1));
+    CHECK(is_no_init(SNJOFRASK_CMD_INIT, welcome, 16));
+    CHECK(is_no_init(SNJOFRASK_CMD_PING, welcome, 17) && is_no_init(SNJOFRASK_CMD_PING, welcome, 19));
+
+    /* of 19 bytes, in packets: what follows stands in the host's own buffer */
+    memset(&collection, 0, sizeof collection);
+    memset(message, 0xEE, sizeof message);
+    welcome[17] = 0xAB;
+    welcome[18] = 0xCD;
+    CHECK(snjofrask_write_packet(7, SNJOFRASK_CMD_INIT, welcome, 19, 0, packet, sizeof packet) == 0);
+    CHECK(is(host_read(&collection, 19), SNJOFRASK_KIND_COLLECTED, 0, SNJOFRASK_CMD_INIT, 19));
+    CHECK(snjofrask_init_reply(SNJOFRASK_CMD_INIT, message, 19).rest == 2 && message[17] == 0xAB && message[18] == 0xCD);
 }
 
 /* ---- buffers that are lent anew at every call */
@@ -474,8 +506,9 @@ static void highest_lengths(void)
     CHECK(snjofrask_split_message(1, 1, payload, 1, 0xF2, HIGH, packet, 64) == SNJOFRASK_REFUSAL_INDEX);
     CHECK(snjofrask_split_message(1, 1, payload, 1, 0xF2, 256, packet, 64) == SNJOFRASK_REFUSAL_INDEX);
     CHECK(snjofrask_split_message(1, 1, payload, HIGH, 0xF2, 0, packet, 64) == 0 && packet[7] == 0xF2);
-    CHECK(snjofrask_init_reply(SNJOFRASK_CMD_INIT, payload, HIGH + 17).refusal == SNJOFRASK_REFUSAL_NOT_INIT);
-    CHECK(snjofrask_init_reply(SNJOFRASK_CMD_INIT, payload, 256 + 17).refusal == SNJOFRASK_REFUSAL_NOT_INIT);
+    CHECK(is_no_init(SNJOFRASK_CMD_INIT, payload, HIGH + 17));
+    CHECK(is_no_init(SNJOFRASK_CMD_INIT, payload, 65536 + 17));
+    CHECK(snjofrask_init_reply(SNJOFRASK_CMD_INIT, payload, 256 + 17).rest == 256);
 }
 
 static void lengths_to_a_state(void)
@@ -536,7 +569,7 @@ static void channels_and_commands(void)
 
     memset(&collection, 0, sizeof collection);
     CHECK(snjofrask_init_reply(SNJOFRASK_CMD_INIT, payload, 17).refusal == 0);
-    CHECK(snjofrask_init_reply(SNJOFRASK_CMD_INIT | 0x80, payload, 17).refusal == SNJOFRASK_REFUSAL_NOT_INIT);
+    CHECK(is_no_init(SNJOFRASK_CMD_INIT | 0x80, payload, 17));
     CHECK(snjofrask_split_message(0x92345678, SNJOFRASK_CMD_PING, payload, 1, 0xF2, 0, packet, 64) == 0);
     CHECK(memcmp(packet, front, sizeof front) == 0);
     CHECK(is(snjofrask_host_read(&collection, 0x345678, packet, 64, message, 57), SNJOFRASK_KIND_IGNORED, 0, 0, 0));
@@ -553,6 +586,7 @@ int main(void)
     disabled_writes_no_message();
     transports();
     hosts();
+    init_replies();
     lending_to_a_device();
     lending_to_a_host();
     highest_lengths();

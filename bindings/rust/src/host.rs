@@ -100,7 +100,7 @@ impl<'b> Collection<'b> {
 
 /// What a reply to INIT tells.
 #[derive(Clone, Copy, Debug, PartialEq, Eq)]
-pub struct InitReply {
+pub struct InitReply<'a> {
     /// The bytes that the host sent, if the reply is its own.
     pub nonce: [u8; 8],
     /// The channel to use from now on.
@@ -115,23 +115,27 @@ pub struct InitReply {
     pub build: u8,
     /// The capabilities, as [`CtapHid`](crate::CtapHid) has them.
     pub capabilities: u8,
+    /// What follows these fields: the payload from byte 17 on. Later versions of the standard may add fields there;
+    /// nothing is said of them.
+    pub rest: &'a [u8],
 }
 
-/// Reads a reply to INIT, of exactly 17 bytes.
+/// Reads a reply to INIT, of 17 to [`LARGEST_PAYLOAD`](crate::LARGEST_PAYLOAD) bytes.
 ///
 /// ```
 /// use snjofrask::{CtapHidCommand, Refusal, init_reply};
 ///
-/// let payload = [1, 2, 3, 4, 5, 6, 7, 8, 0, 0, 1, 0, 2, 1, 0, 0, 5];
+/// let payload = [1, 2, 3, 4, 5, 6, 7, 8, 0, 0, 1, 0, 2, 1, 0, 0, 5, 0xAB, 0xCD];
 /// let reply = init_reply(CtapHidCommand::Init as u8, &payload)?;
 /// assert_eq!(reply.nonce, payload[..8]);
 /// assert_eq!((reply.cid, reply.protocol, reply.capabilities), ([0, 0, 1, 0], 2, 5));
 /// assert_eq!((reply.major, reply.minor, reply.build), (1, 0, 0));
+/// assert_eq!(reply.rest, [0xAB, 0xCD]);
 /// assert_eq!(init_reply(CtapHidCommand::Ping as u8, &payload), Err(Refusal::NotInit));
 /// assert_eq!(init_reply(CtapHidCommand::Init as u8, &payload[..16]), Err(Refusal::NotInit));
 /// # Ok::<(), Refusal>(())
 /// ```
-pub fn init_reply(cmd: u8, payload: &[u8]) -> Result<InitReply, Refusal> {
+pub fn init_reply(cmd: u8, payload: &[u8]) -> Result<InitReply<'_>, Refusal> {
     let outcome = raw::init_reply(cmd, payload);
     if outcome.refusal != 0 {
         return Err(Refusal::numbered(outcome.refusal));
@@ -144,5 +148,10 @@ pub fn init_reply(cmd: u8, payload: &[u8]) -> Result<InitReply, Refusal> {
         minor: outcome.minor,
         build: outcome.build,
         capabilities: outcome.capabilities,
+        // what is taken has 17 bytes, and so many behind them
+        rest: payload
+            .get(17..)
+            .and_then(|rest| rest.get(..usize::from(outcome.rest)))
+            .unwrap_or_default(),
     })
 }

@@ -154,7 +154,8 @@ pub enum Refusal {
     Sequence = 9,
     /// Host: a reply that the buffer can't hold, or a KEEPALIVE not of one byte.
     LongReply = 10,
-    /// Host: not a reply to INIT of exactly 17 bytes.
+    /// Host: not a reply to INIT, or one of fewer than 17 bytes or more than
+    /// [`LARGEST_PAYLOAD`](crate::LARGEST_PAYLOAD).
     NotInit = 11,
     /// A command above 127. No call of this crate can have one.
     Command = 12,

@@ -63,7 +63,7 @@ pub struct InitOutcome {
     pub build: u8,
     pub capabilities: u8,
     pub refusal: u8,
-    pub spare: u16,
+    pub rest: u16,
     pub nonce: [u8; 8],
 }
 

@@ -1,8 +1,8 @@
 //! A host and a device, both of this crate, over packets: every length of message that stands at a boundary.
 use snjofrask::{
     CHANNEL_BROADCAST, ChannelID, Collection, CtapHid, CtapHidCommand, CtapHidError,
-    HidPacketIterator, InitReply, LARGEST_PAYLOAD, LAST_TIME_MS, MainHid, Message, Processed,
-    Progress, Refusal, init_reply,
+    HidPacketIterator, LARGEST_PAYLOAD, LAST_TIME_MS, MainHid, Message, Processed, Progress,
+    Refusal, init_reply,
 };
 
 const LENGTHS: [usize; 12] = [0, 1, 56, 57, 58, 115, 116, 117, 175, 1024, 7608, 7609];
@@ -42,7 +42,8 @@ fn ask(
     Ok(reply)
 }
 
-fn init(device: &mut MainHid, time_ms: u64, nonce: [u8; 8]) -> InitReply {
+/// The channel and the capabilities that a device replies to INIT.
+fn init(device: &mut MainHid, time_ms: u64, nonce: [u8; 8]) -> (ChannelID, u8) {
     let message = Message {
         cid: CHANNEL_BROADCAST,
         cmd: CtapHidCommand::Init,
@@ -50,8 +51,8 @@ fn init(device: &mut MainHid, time_ms: u64, nonce: [u8; 8]) -> InitReply {
     };
     let (cmd, payload) = ask(device, time_ms, message).unwrap().unwrap();
     let reply = init_reply(cmd, &payload).unwrap();
-    assert_eq!(reply.nonce, nonce);
-    reply
+    assert_eq!((reply.nonce, reply.rest), (nonce, &[][..]));
+    (reply.cid, reply.capabilities)
 }
 
 fn error(cid: ChannelID, error: CtapHidError) -> Option<(u8, Vec<u8>)> {
@@ -63,8 +64,8 @@ fn error(cid: ChannelID, error: CtapHidError) -> Option<(u8, Vec<u8>)> {
 fn every_message_comes_back() {
     let mut buffer = [0; LARGEST_PAYLOAD];
     let mut device = MainHid::new(&mut buffer, true).unwrap();
-    assert_eq!(init(&mut device, 0, [1; 8]).cid, [0, 0, 0, 1]);
-    let cid = init(&mut device, 0, [2; 8]).cid;
+    assert_eq!(init(&mut device, 0, [1; 8]).0, [0, 0, 0, 1]);
+    let (cid, _) = init(&mut device, 0, [2; 8]);
     assert_eq!(cid, [0, 0, 0, 2]);
     let bytes: Vec<u8> = (0..LARGEST_PAYLOAD).map(|i| (i % 251) as u8).collect();
     for len in LENGTHS {
@@ -90,11 +91,10 @@ fn every_message_comes_back() {
 fn errors_are_told() {
     let mut buffer = [0; 100];
     let mut device = MainHid::new(&mut buffer, false).unwrap();
-    let reply = init(&mut device, 0, [0; 8]);
     let capabilities =
         CtapHid::CAPABILITY_WINK | CtapHid::CAPABILITY_CBOR | CtapHid::CAPABILITY_NMSG;
-    assert_eq!(reply.capabilities, capabilities);
-    let cid = init(&mut device, 0, [0; 8]).cid;
+    assert_eq!(init(&mut device, 0, [0; 8]).1, capabilities);
+    let (cid, _) = init(&mut device, 0, [0; 8]);
     for (cid, cmd, payload, wanted) in [
         (
             cid,
@@ -155,10 +155,41 @@ fn errors_are_told() {
 }
 
 #[test]
+fn longer_replies_to_init() {
+    let bytes: Vec<u8> = (0..=LARGEST_PAYLOAD).map(|i| (i % 251) as u8).collect();
+    let cmd = CtapHidCommand::Init;
+    for len in [0, 16, LARGEST_PAYLOAD + 1] {
+        assert_eq!(init_reply(cmd as u8, &bytes[..len]), Err(Refusal::NotInit));
+    }
+    for len in [17, 18, 19, 256 + 17, LARGEST_PAYLOAD] {
+        let payload = &bytes[..len];
+        let reply = init_reply(cmd as u8, payload).unwrap();
+        assert_eq!(reply.nonce, [0, 1, 2, 3, 4, 5, 6, 7]);
+        assert_eq!((reply.cid, reply.capabilities), ([8, 9, 10, 11], 16));
+        assert_eq!(reply.rest.as_ptr_range(), payload[17..].as_ptr_range());
+    }
+
+    // of 19 bytes, in packets
+    let cid = CHANNEL_BROADCAST;
+    let mut buffer = [0; 19];
+    let mut collection = Collection::new(&mut buffer);
+    let mut packets = CtapHid::split_message(Message {
+        cid,
+        cmd,
+        payload: &bytes[..19],
+    });
+    let packet = packets.next().unwrap();
+    let Ok(Progress::Reply { cmd, payload }) = collection.take_packet(cid, &packet) else {
+        panic!();
+    };
+    assert_eq!(init_reply(cmd, payload).unwrap().rest, [17, 18]);
+}
+
+#[test]
 fn a_message_out_of_order() {
     let mut buffer = [0; 200];
     let mut device = MainHid::new(&mut buffer, true).unwrap();
-    let cid = init(&mut device, 0, [0; 8]).cid;
+    let (cid, _) = init(&mut device, 0, [0; 8]);
     let message = Message {
         cid,
         cmd: CtapHidCommand::Ping,
@@ -186,7 +217,7 @@ fn refusals() {
         Some(Refusal::Maximum)
     );
     let mut device = MainHid::new(&mut buffer[..57], true).unwrap();
-    let cid = init(&mut device, 7, [0; 8]).cid;
+    let (cid, _) = init(&mut device, 7, [0; 8]);
     let ping = Message {
         cid,
         cmd: CtapHidCommand::Ping,

@@ -5,7 +5,7 @@ use crate::ours::{CtapHid, ECHO, MESSAGE, MessageAssembler, NOTHING, Outcome, RE
 pub const BROADCAST: u32 = 0xffff_ffff;
 
 /// Faults of a step, and of the functions beside it.
-pub const FAULTS: [&str; 31] = [
+pub const FAULTS: [&str; 35] = [
     "first-number-1",
     "timer-99",
     "timer-101",
@@ -36,6 +36,10 @@ pub const FAULTS: [&str; 31] = [
     "host-spare-bytes-written",
     "host-owed-byte-lost",
     "init-channel-swapped",
+    "init-17-alone",
+    "init-short-taken",
+    "init-long-taken",
+    "init-rest-from-16",
     "init-cbor-lost",
 ];
 

@@ -338,6 +338,13 @@ impl Pair {
                 ..Default::default()
             });
             init(cmd, payload, fields, self.fault)?;
+            // the same with more behind it, as another key may send
+            if let Some(fields) = fields {
+                let longer = [payload, &self.answers[..step.answer]].concat();
+                let rest = step.answer as u16;
+                let fields = (longer.len() <= 7609).then_some(ours::InitOutcome { rest, ..fields });
+                init(cmd, &longer, fields, self.fault)?;
+            }
         }
 
         // the device's answer
@@ -609,16 +616,19 @@ pub fn send(cid: u32, cmd: u8, payload: &[u8], fault: &str) -> Result<(), String
             }
         }
     }
-    let fields = (payload.len() == 17).then(|| ours::InitOutcome {
-        cid: u32::from_be_bytes(payload[8..12].try_into().unwrap()),
-        protocol: payload[12],
-        major: payload[13],
-        minor: payload[14],
-        build: payload[15],
-        capabilities: payload[16],
-        nonce: payload[..8].try_into().unwrap(),
-        ..Default::default()
-    });
+    let fields = (17..=7609)
+        .contains(&payload.len())
+        .then(|| ours::InitOutcome {
+            cid: u32::from_be_bytes(payload[8..12].try_into().unwrap()),
+            protocol: payload[12],
+            major: payload[13],
+            minor: payload[14],
+            build: payload[15],
+            capabilities: payload[16],
+            refusal: 0,
+            rest: payload[17..].len() as u16,
+            nonce: payload[..8].try_into().unwrap(),
+        });
     init(6, payload, fields, fault)
 }
 
@@ -637,6 +647,12 @@ fn init(
     match fault {
         "init-channel-swapped" => told.cid = told.cid.swap_bytes(),
         "init-cbor-lost" => told.capabilities &= !4,
+        "init-17-alone" if payload.len() != 17 => told = ours::init_reply(0, payload),
+        "init-short-taken" if payload.len() == 16 => told.refusal = 0,
+        "init-long-taken" if payload.len() == 7610 => {
+            told = ours::init_reply(cmd, &payload[..7609])
+        }
+        "init-rest-from-16" if told.refusal == 0 => told.rest += 1,
         _ => (),
     }
     same!("fields of a reply to INIT", wanted, told);
