@@ -4,8 +4,8 @@ use native.Mathlib.Omega.{arith}
 use mathlib.Core.Path.{_≡_, refl, ap, _∙_}
 use mathlib.Core.List.{List, [], _∷_, _++_, append-assoc}
 use borrow.Author.Tests.{lt-ltb, le-ltb, ltb-false, eq-eqb, ne-eqb}
-use lib.ListN.{length, drop, length-append}
-use lib.Seq.{take-at, drop-at, getD-append-add, drop-append-add}
+use lib.ListN.{length, take, drop, length-append, length-drop, List·getD-append}
+use lib.Seq.{take-at, drop-at, take-append-le, drop-append-le, getD-append-add, drop-append-add}
 use Rattle.ctaphid.specs.Choice.{pick}
 use Rattle.ctaphid.specs.Capabilities.{capabilities}
 use Rattle.ctaphid.specs.Limits.{largest}
@@ -41,6 +41,27 @@ module _ (cmd : ℕ) (p : List ℕ) where
       (λ e. none)
       (λ e. pick-known P _ _ _ (λ s. none) (λ s. pick-known P _ _ _ (λ l. none) (λ l. taken (ltb-false (length p) 17 s) (ltb-false largest (length p) l))))
 
+-- ---- 17 bytes, and what follows them
+channel-first : (p added : List ℕ) → 4 ≤ length p → channelIn (p ++ added) ≡ channelIn p
+unfolding channelIn
+channel-first p added h =
+    let at = List·getD-append p added 0 in
+    omega (arith, at 0 (omega arith), at 1 (omega arith), at 2 (omega arith), at 3 (omega arith))
+
+module _ (p added : List ℕ) (size : length p ≡ 17) where
+  fields-first : initFieldsOf (p ++ added)
+      ≡ record { nonce = take 8 p; channel = channelIn (drop 8 p); protocol = byte p 12; major = byte p 13; minor = byte p 14; build = byte p 15; flags = byte p 16; rest = added }
+  fields-first = λ i. record {
+    nonce = take-append-le 8 p added (omega arith) i;
+    channel = (ap channelIn (drop-append-le 8 p added (omega arith)) ∙ channel-first (drop 8 p) added (simp length-drop (omega arith))) i;
+    protocol = List·getD-append p added 0 12 (omega arith) i;
+    major = List·getD-append p added 0 13 (omega arith) i;
+    minor = List·getD-append p added 0 14 (omega arith) i;
+    build = List·getD-append p added 0 15 (omega arith) i;
+    flags = List·getD-append p added 0 16 (omega arith) i;
+    rest = drop-at p added 17 size i;
+  }
+
 -- ---- what stands behind a nonce
 module _ (nonce t : List ℕ) (size : length nonce ≡ 8) where
   behind : (k : ℕ) → byte (nonce ++ t) (8 + k) ≡ byte t k
@@ -73,6 +94,9 @@ read-back nonce c set added size below most =
 
 pub reads-init : ReadsInit
 reads-init = record {
+  first-17 = λ p added size most.
+      let long : length (p ++ added) ≡ 17 + length added = simp length-append (omega arith) in
+      init-taken 6 (p ++ added) refl (omega arith) (omega arith) ∙ ap initFields (fields-first p added size);
   read-back = read-back;
   another = init-another;
   short = λ p h. init-short 6 p refl (omega arith);

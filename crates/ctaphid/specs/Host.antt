@@ -133,7 +133,11 @@ initOf cmd payload =
 
 -- what that comes to. Numbers are bare here
 pub record ReadsInit : Type 0 where
-  -- a device's reply is read as it was meant, whatever a later version adds
+  -- 17 bytes are read alike whatever follows them, and that is handed back
+  pub first-17 : (p added : List ℕ) → length p ≡ 17 → length added ≤ 7592
+      → initOf 0x06 (p ++ added)
+      ≡ initFields (record { nonce = take 8 p; channel = channelIn (drop 8 p); protocol = byte p 12; major = byte p 13; minor = byte p 14; build = byte p 15; flags = byte p 16; rest = added })
+  -- what a device replies is read as it was meant
   pub read-back : (nonce : List ℕ) (c : ℕ) (set : Settings) (added : List ℕ) → length nonce ≡ 8 → c < 2 ^ 32 → length added ≤ 7592
       → initOf 0x06 (initReply nonce c set ++ added)
       ≡ initFields (record { nonce = nonce; channel = c; protocol = 2; major = 1; minor = 0; build = 0; flags = capabilities (set .u2f); rest = added })
