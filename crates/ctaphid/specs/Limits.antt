@@ -9,7 +9,7 @@ packetSize = 64
 abbrev pub largest : ℕ
 largest = 57 + 128 * 59
 
--- §11.2.9.1.3: the reply to INIT has 17 bytes. No reply that the device makes up itself is longer, so the short reply buffer has at least so many
+-- §11.2.9.1.3: the fields of a reply to INIT take 17 bytes. No reply that the device makes up itself is longer, so the short reply buffer has at least so many
 abbrev pub shortReply : ℕ
 shortReply = 17
 
