@@ -1,4 +1,4 @@
--- Each public contract of the host leaves one outcome: the answer, and the collection and the buffer at exit where they are lent. Assumes nothing.
+-- Each public contract of the host leaves one outcome: the answer, or a part's bytes and place, and the collection and the buffer at exit where they are lent. Assumes nothing.
 use Prim.Native.Nat.{ℕ}
 use mathlib.Core.Path.{refl, sym, ap, _∙_}
 use mathlib.Core.List.{List}

@@ -22,7 +22,7 @@ pub fn init_reply(cmd: u8, payload: &[u8]) -> InitReply
     no_reply()
 }
 
-// The bytes behind the fields, which later versions may add, as the payload's own. What init_reply refuses has none.
+// What follows the fields, where later versions may add some: the payload's own bytes. Where init_reply refuses, the empty part (DECISIONS 42).
 pub fn init_rest(cmd: u8, payload: &[u8]) -> &[u8]
     ensures { λ r. ⌜ IsRest cmd (payload .entry) r ⌝ }
 {
