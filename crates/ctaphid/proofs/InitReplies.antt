@@ -2,10 +2,10 @@
 use Prim.Native.Nat.{ℕ, _+_, _≤_, _<_, _^_}
 use native.Mathlib.Omega.{arith}
 use mathlib.Core.Path.{_≡_, refl, ap, _∙_}
-use mathlib.Core.List.{List, [], _∷_, _++_, append-assoc}
+use mathlib.Core.List.{List, [], _∷_, _++_}
 use borrow.Author.Tests.{lt-ltb, le-ltb, ltb-false, eq-eqb, ne-eqb}
 use lib.ListN.{length, take, drop, length-append, length-drop, List·getD-append}
-use lib.Seq.{take-at, drop-at, take-append-le, drop-append-le, getD-append-add, drop-append-add}
+use lib.Seq.{take-at, drop-at, take-append-le, drop-append-le, getD-append-add}
 use Rattle.ctaphid.specs.Choice.{pick}
 use Rattle.ctaphid.specs.Capabilities.{capabilities}
 use Rattle.ctaphid.specs.Limits.{largest}
@@ -48,55 +48,50 @@ channel-first p added h =
     let at = List·getD-append p added 0 in
     omega (arith, at 0 (omega arith), at 1 (omega arith), at 2 (omega arith), at 3 (omega arith))
 
-module _ (p added : List ℕ) (size : length p ≡ 17) where
-  fields-first : initFieldsOf (p ++ added)
-      ≡ record { nonce = take 8 p; channel = channelIn (drop 8 p); protocol = byte p 12; major = byte p 13; minor = byte p 14; build = byte p 15; flags = byte p 16; rest = added }
-  fields-first = λ i. record {
-    nonce = take-append-le 8 p added (omega arith) i;
-    channel = (ap channelIn (drop-append-le 8 p added (omega arith)) ∙ channel-first (drop 8 p) added (simp length-drop (omega arith))) i;
-    protocol = List·getD-append p added 0 12 (omega arith) i;
-    major = List·getD-append p added 0 13 (omega arith) i;
-    minor = List·getD-append p added 0 14 (omega arith) i;
-    build = List·getD-append p added 0 15 (omega arith) i;
-    flags = List·getD-append p added 0 16 (omega arith) i;
-    rest = drop-at p added 17 size i;
-  }
+first-17 : (p added : List ℕ) → length p ≡ 17 → length added ≤ 7592
+    → initOf 6 (p ++ added)
+    ≡ initFields (record { nonce = take 8 p; channel = channelIn (drop 8 p); protocol = byte p 12; major = byte p 13; minor = byte p 14; build = byte p 15; flags = byte p 16; rest = added })
+first-17 p added size most =
+    let long : length (p ++ added) ≡ 17 + length added = simp length-append (omega arith) in
+    let at = List·getD-append p added 0 in
+    init-taken 6 (p ++ added) refl (omega arith) (omega arith)
+    ∙ (λ i. initFields (record {
+      nonce = take-append-le 8 p added (omega arith) i;
+      channel = (ap channelIn (drop-append-le 8 p added (omega arith)) ∙ channel-first (drop 8 p) added (simp length-drop (omega arith))) i;
+      protocol = at 12 (omega arith) i;
+      major = at 13 (omega arith) i;
+      minor = at 14 (omega arith) i;
+      build = at 15 (omega arith) i;
+      flags = at 16 (omega arith) i;
+      rest = drop-at p added 17 size i;
+    }))
 
--- ---- what stands behind a nonce
-module _ (nonce t : List ℕ) (size : length nonce ≡ 8) where
-  behind : (k : ℕ) → byte (nonce ++ t) (8 + k) ≡ byte t k
-  behind k = rw size at (getD-append-add nonce t k 0)
-
-  fields-behind : initFieldsOf (nonce ++ t)
-      ≡ record { nonce = nonce; channel = channelIn t; protocol = byte t 4; major = byte t 5; minor = byte t 6; build = byte t 7; flags = byte t 8; rest = drop 9 t }
-  fields-behind = λ i. record {
-    nonce = take-at nonce t 8 size i;
-    channel = channelIn (drop-at nonce t 8 size i);
-    protocol = behind 4 i;
-    major = behind 5 i;
-    minor = behind 6 i;
-    build = behind 7 i;
-    flags = behind 8 i;
-    rest = (rw size at (drop-append-add nonce t 9)) i;
-  }
+-- ---- of a device's reply: what stands behind the nonce
+behind : (nonce t : List ℕ) → length nonce ≡ 8 → (k : ℕ) → byte (nonce ++ t) (8 + k) ≡ byte t k
+behind nonce t size k = rw size at (getD-append-add nonce t k 0)
 
 read-back : (nonce : List ℕ) (c : ℕ) (set : Settings) (added : List ℕ) → length nonce ≡ 8 → c < 2 ^ 32 → length added ≤ 7592
     → initOf 6 (initReply nonce c set ++ added)
     ≡ initFields (record { nonce = nonce; channel = c; protocol = 2; major = 1; minor = 0; build = 0; flags = capabilities (set .u2f); rest = added })
 unfolding channelIn
 read-back nonce c set added size below most =
-    let t = four c ++ (2 ∷ 1 ∷ 0 ∷ 0 ∷ capabilities (set .u2f) ∷ added) in
-    let long : length (nonce ++ t) ≡ 17 + length added = simp length-append (omega arith) in
-    ap (initOf 6) (append-assoc nonce (four c ++ (2 ∷ 1 ∷ 0 ∷ 0 ∷ capabilities (set .u2f) ∷ [])) added)
-    ∙ (init-taken 6 (nonce ++ t) refl (omega arith) (omega arith)
-    ∙ (ap initFields (fields-behind nonce t size)
-    ∙ (λ i. initFields (record { nonce = nonce; channel = four-is c below i; protocol = 2; major = 1; minor = 0; build = 0; flags = capabilities (set .u2f); rest = added }))))
+    let t = four c ++ (2 ∷ 1 ∷ 0 ∷ 0 ∷ capabilities (set .u2f) ∷ []) in
+    let at = behind nonce t size in
+    first-17 (nonce ++ t) added (simp length-append (omega arith)) most
+    ∙ (λ i. initFields (record {
+      nonce = take-at nonce t 8 size i;
+      channel = (ap channelIn (drop-at nonce t 8 size) ∙ four-is c below) i;
+      protocol = at 4 i;
+      major = at 5 i;
+      minor = at 6 i;
+      build = at 7 i;
+      flags = at 8 i;
+      rest = added;
+    }))
 
 pub reads-init : ReadsInit
 reads-init = record {
-  first-17 = λ p added size most.
-      let long : length (p ++ added) ≡ 17 + length added = simp length-append (omega arith) in
-      init-taken 6 (p ++ added) refl (omega arith) (omega arith) ∙ ap initFields (fields-first p added size);
+  first-17 = first-17;
   read-back = read-back;
   another = init-another;
   short = λ p h. init-short 6 p refl (omega arith);

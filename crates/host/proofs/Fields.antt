@@ -1,5 +1,5 @@
--- The fields of a reply to INIT, and which replies are taken. Assumes nothing.
-use Prim.Native.Nat.{ℕ, _+_, _*_, _≤_, _<_}
+-- The fields of a reply to INIT, and what follows them. Assumes nothing.
+use Prim.Native.Nat.{ℕ, _+_, _*_, _≤_}
 use native.Mathlib.Nat.{zero-add}
 use native.Mathlib.Omega.{arith}
 use mathlib.Core.Path.{_≡_, refl, sym, ap, _∙_}
@@ -7,11 +7,10 @@ use mathlib.Core.List.{List, [], _∷_}
 use mathlib.Core.Bool.{Bool, true, false, true≢false}
 use lib.ListN.{length, take, drop, length-drop}
 use lib.Seq.{getD-drop}
-use Rattle.ctaphid.specs.Limits.{largest}
 use Rattle.ctaphid.specs.Packets.{byte, channelIn}
 use Rattle.ctaphid.specs.Host.{InitHeard, notInit, initFields, initFieldsOf, initOf}
 use Rattle.packet.specs.Reading.{ahead}
-use Rattle.ctaphid.proofs.InitReplies.{init-another, init-short, init-long, init-taken, init-known}
+use Rattle.ctaphid.proofs.InitReplies.{init-known}
 use Rattle.host.specs.declared.InitReply.{InitReply}
 use Rattle.host.specs.declared.InitAnswer.the-variants.{Refused, Fields}
 use Rattle.host.specs.Meaning.{initReplyOf}
@@ -42,50 +41,28 @@ pub fields-are : (p : List ℕ) → 17 ≤ length p → {cid : ℕ} → cid ≡ 
 fields-are p n {cid} e r k =
     k ∙ (λ i. record { nonce = take-eight p (omega arith) i; answer = Fields ((e ∙ channel-at-8 p) i) (byte p 12) (byte p 13) (byte p 14) (byte p 15) (byte p 16) })
 
--- ---- which replies are taken
-module _ (cmd : ℕ) (p : List ℕ) where
-  pub another-none : (cmd ≡ 6 → ⊥) → false ≡ isTaken (initOf cmd p)
-  another-none n = sym (ap isTaken (init-another cmd p n))
-
-  module _ (is : cmd ≡ 6) where
-    pub short-none : length p < 17 → false ≡ isTaken (initOf cmd p)
-    short-none h = sym (ap isTaken (init-short cmd p is h))
-
-    pub long-none : 17 ≤ length p → largest < length p → false ≡ isTaken (initOf cmd p)
-    long-none h k = sym (ap isTaken (init-long cmd p is h k))
-
-    pub others-taken : 17 ≤ length p → length p ≤ largest → true ≡ isTaken (initOf cmd p)
-    others-taken h k = sym (ap isTaken (init-taken cmd p is h k))
-
-  -- what that says of the reply
-  taken-is : isTaken (initOf cmd p) ≡ true → (17 ≤ length p) × (initOf cmd p ≡ initFields (initFieldsOf p))
-  taken-is =
-      init-known cmd p (λ (h : InitHeard). isTaken h ≡ true → (17 ≤ length p) × (h ≡ initFields (initFieldsOf p))) (λ e. absurd (true≢false (sym e))) (λ h k e. (h, refl))
-
-  none-is : isTaken (initOf cmd p) ≡ false → initOf cmd p ≡ notInit 11
-  none-is = init-known cmd p (λ (h : InitHeard). isTaken h ≡ false → h ≡ notInit 11) (λ e. refl) (λ h k e. absurd (true≢false e))
-
-  pub rest-most : (r : List ℕ) → r ≡ restOf (initOf cmd p) → length r ≤ 7592
-  rest-most r e = rw e (init-known cmd p (λ (h : InitHeard). length (restOf h) ≤ 7592) (omega arith) (λ h k. simp length-drop (omega arith)))
-
--- ---- what both functions make of it
+-- ---- what the test says of the reply
 module _ (cmd : ℕ) (p : List ℕ) (b : Bool) (is : b ≡ isTaken (initOf cmd p)) where
-  pub taken-long : b ≡ true → 17 ≤ length p
-  taken-long e = taken-is cmd p (sym is ∙ e) .0
+  pub taken-is : b ≡ true → (17 ≤ length p) × (initOf cmd p ≡ initFields (initFieldsOf p))
+  taken-is e =
+      init-known cmd p (λ (h : InitHeard). isTaken h ≡ true → (17 ≤ length p) × (h ≡ initFields (initFieldsOf p)))
+      (λ k. absurd (true≢false (sym k)))
+      (λ low high k. (low, refl))
+      (sym is ∙ e)
 
-  pub taken-read : b ≡ true → initOf cmd p ≡ initFields (initFieldsOf p)
-  taken-read e = taken-is cmd p (sym is ∙ e) .1
-
-  pub none-read : b ≡ false → initOf cmd p ≡ notInit 11
-  none-read e = none-is cmd p (sym is ∙ e)
+  pub none-is : b ≡ false → initOf cmd p ≡ notInit 11
+  none-is e = init-known cmd p (λ (h : InitHeard). isTaken h ≡ false → h ≡ notInit 11) (λ k. refl) (λ low high k. absurd (true≢false k)) (sym is ∙ e)
 
   pub reply-taken : b ≡ true → (r : InitReply) → r ≡ initReplyOf (initFields (initFieldsOf p)) → r ≡ initReplyOf (initOf cmd p)
-  reply-taken e r k = k ∙ sym (ap initReplyOf (taken-read e))
+  reply-taken e r k = k ∙ sym (ap initReplyOf (taken-is e .1))
 
   pub reply-none : b ≡ false → (r : InitReply) → r ≡ record { nonce = 0 ∷ 0 ∷ 0 ∷ 0 ∷ 0 ∷ 0 ∷ 0 ∷ 0 ∷ []; answer = Refused 11 } → r ≡ initReplyOf (initOf cmd p)
-  reply-none e r k = k ∙ sym (ap initReplyOf (none-read e))
+  reply-none e r k = k ∙ sym (ap initReplyOf (none-is e))
 
--- ---- they agree
+-- ---- what follows the fields
+pub rest-most : (cmd : ℕ) (p r : List ℕ) → r ≡ restOf (initOf cmd p) → length r ≤ 7592
+rest-most cmd p r e = rw e (init-known cmd p (λ (h : InitHeard). length (restOf h) ≤ 7592) (omega arith) (λ low high. simp length-drop (omega arith)))
+
 pub agrees : Agrees
 agrees cmd p r x e i =
     init-known cmd (p .now) (λ (h : InitHeard). x ≡ initReplyOf h → r .now ≡ restOf h → r .ptr ≡ ahead (beforeRest h) (p .ptr) → Agree p r x)

@@ -1,5 +1,5 @@
 -- `init_reply` meets its contract. Assumes nothing.
-use Rattle.host.proofs.Fields.{taken-long, reply-taken, reply-none}
+use Rattle.host.proofs.Fields.{taken-is, reply-taken, reply-none}
 use borrow.Author.Needs.{needs}
 use Rattle.host.proofs.init.init_reply.Statement.{statement}
 use Rattle.host.proofs.init.init_reply.Tie as tie
@@ -8,7 +8,7 @@ is-init-reply-requires : tie.Need-is-init-reply-requires
 is-init-reply-requires c κs = search needs
 
 fields-requires : tie.Need-fields-requires
-fields-requires c κs = search taken-long
+fields-requires c κs = taken-is _ _ _ (c .before .is-init-reply .ensures) (c .if1 .taken) .0
 
 returns : tie.Need-returns
 returns c = search (reply-taken, reply-none)
