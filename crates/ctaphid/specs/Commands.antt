@@ -1,12 +1,13 @@
 -- §11.2.9: the commands. Assumes nothing.
 use Prim.Native.Nat.{ℕ}
-use mathlib.Core.Bool.{Bool}
+use mathlib.Core.Bool.{Bool, false}
 use mathlib.Core.List.{List, [], _∷_}
-use lib.Dec.{eqb}
+use lib.Dec.{leb, eqb}
 use Rattle.ctaphid.specs.Choice.{pick}
 
 pub data Command : Type 0 where
   MSG CBOR INIT PING CANCEL ERROR KEEPALIVE WINK LOCK : Command
+  VENDOR : (number : ℕ) → Command
 
 -- the number of each, in the standard's order
 abbrev pub number : Command → ℕ
@@ -21,8 +22,14 @@ number KEEPALIVE = 0x3b
 -- §11.2.9.2, optional
 number WINK = 0x08
 number LOCK = 0x04
+-- §11.2.9.3, the vendor's own
+number (VENDOR n) = n
 
--- whether the two are the same
+-- §11.2.9.3: the numbers that are the vendor's
+unfoldable pub isVendor : ℕ → Bool
+isVendor n = pick (leb 0x40 n) (leb n 0x7f) false
+
+-- whether the two have one number
 abbrev pub is : Command → Command → Bool
 is a b = eqb (number a) (number b)
 
@@ -34,6 +41,6 @@ unfoldable pub among : List Command → ℕ → Command
 among [] n = ERROR
 among (c ∷ rest) n = pick (eqb n (number c)) c (among rest n)
 
--- a command's number read. That any other number reads as ERROR is DIFFERENCES 1
+-- a command's number read. That a number which is neither the vendor's nor named reads as ERROR is DIFFERENCES 1
 abbrev pub commandOf : ℕ → Command
-commandOf n = among commands n
+commandOf n = pick (isVendor n) (VENDOR n) (among commands n)

@@ -5,9 +5,10 @@ use mathlib.Core.List.{List, [], _∷_}
 use mathlib.Core.Bool.{Bool, true, false}
 use mathlib.Core.Logic.{_⊎_}
 use lib.ListN.{length}
+use Rattle.ctaphid.specs.Choice.{isIn}
 use Rattle.ctaphid.specs.Packets.{byte, Bytes}
 use Rattle.ctaphid.specs.Messages.{wire}
-use Rattle.ctaphid.specs.Commands.{MSG, CBOR, PING, ERROR, WINK, LOCK}
+use Rattle.ctaphid.specs.Commands.{MSG, CBOR, PING, ERROR, WINK, LOCK, VENDOR}
 use Rattle.ctaphid.specs.Receiver.{isOn}
 use Rattle.ctaphid.specs.Transport.{Settings, Transport, Event, Answer, nothing, reply, request, Next, fresh, isAllocated, isLockedBy, step}
 
@@ -29,6 +30,11 @@ standard =
       isOn = λ d c time. isOn (d .receiver) c time;
       isLockedBy = λ d c time. isLockedBy (d .lock) c time;
     }
+
+-- settings that set-up doesn't refuse: a maximum up to 7,609, and no number on the list but the vendor's
+pub record Permitted (set : Settings) : Type 0 where
+  pub most : set .maximum ≤ 7609
+  pub vendor : (n : ℕ) → isIn n (set .vendor) ≡ true → (64 ≤ n) × (n ≤ 127)
 
 -- ---- histories: the events since set-up, the latest first
 
@@ -97,18 +103,29 @@ pub data Message : Type 0 where
   aMsg : Message
   aWink : Message
   aCbor : Message
+  aVendor : (number : ℕ) → Message
 
 abbrev pub numberOf : Message → ℕ
 numberOf aPing = 1
 numberOf aMsg = 3
 numberOf aWink = 8
 numberOf aCbor = 16
+numberOf (aVendor n) = n
 
 abbrev pub handedOut : Message → (channel : ℕ) → List ℕ → Answer
 handedOut aPing c payload = reply c PING payload
 handedOut aMsg c payload = request c MSG payload
 handedOut aWink c payload = request c WINK payload
 handedOut aCbor c payload = request c CBOR payload
+handedOut (aVendor n) c payload = request c (VENDOR n) payload
+
+-- a vendor message is asked of a device only if its number is on the list
+abbrev pub Allowed : Settings → Message → Type 0
+Allowed set aPing = Unit {0}
+Allowed set aMsg = Unit {0}
+Allowed set aWink = Unit {0}
+Allowed set aCbor = Unit {0}
+Allowed set (aVendor n) = isIn n (set .vendor) ≡ true
 
 -- an answer that hands a message out
 abbrev pub HandsOut : Answer → Type 0
@@ -130,7 +147,7 @@ Ends D s c a (e ∷ (f ∷ rest)) = Hushed c e (D .step s e .answer) × Ends D (
 -- 'Delivery': exactly that message is handed out, at its last packet and not before, whatever packets come on other channels in between
 abbrev pub Delivery : AnyDevice → Type 0
 Delivery D =
-    (set : Settings) → set .maximum ≤ 7609 → (past : List Event) → Taken past → (c : ℕ) (m : Message) (payload : List ℕ) → length payload ≤ set .maximum
+    (set : Settings) → Permitted set → (past : List Event) → Taken past → (c : ℕ) (m : Message) → Allowed set m → (payload : List ℕ) → length payload ≤ set .maximum
     → (e : Event) (rest : List Event) → Open set past (e .time) c → Sending past c (numberOf m) payload e rest
     → Ends D (after D set past) c (handedOut m c payload) (e ∷ rest)
 
@@ -151,7 +168,7 @@ pub record Since (bound : ℕ) (D : AnyDevice) (set : Settings) (c : ℕ) (past 
 
 abbrev pub TransactionsEndWithin : (bound : ℕ) → AnyDevice → Type 0
 TransactionsEndWithin bound D =
-    (set : Settings) → set .maximum ≤ 7609 → (past : List Event) → Taken past → (time : ℕ) → latest past ≤ time
+    (set : Settings) → Permitted set → (past : List Event) → Taken past → (time : ℕ) → latest past ≤ time
     → (c : ℕ) → D .isOn (after D set past) c time ≡ true → Since bound D set c past time
 
 -- 'No transaction shuts others out beyond 12,800 ms'
@@ -184,7 +201,7 @@ pub record Holding (D : AnyDevice) (set : Settings) (c : ℕ) (past : List Event
 -- 'No lock beyond its seconds'
 abbrev pub LocksEnd : AnyDevice → Type 0
 LocksEnd D =
-    (set : Settings) → set .maximum ≤ 7609 → (past : List Event) → Taken past → (time : ℕ) → latest past ≤ time
+    (set : Settings) → Permitted set → (past : List Event) → Taken past → (time : ℕ) → latest past ≤ time
     → (c : ℕ) → D .isLockedBy (after D set past) c time ≡ true → Holding D set c past time
 
 -- ---- who is turned away
@@ -201,7 +218,7 @@ pub record Against (D : AnyDevice) (s : D .State) (c time : ℕ) : Type 0 where
 
 abbrev pub Honest : AnyDevice → Type 0
 Honest D =
-    (set : Settings) → set .maximum ≤ 7609 → (past : List Event) (e : Event) → Taken (e ∷ past) → e .disabled ≡ false
+    (set : Settings) → Permitted set → (past : List Event) (e : Event) → Taken (e ∷ past) → e .disabled ≡ false
     → answer D set past e ≡ busyOn (on e) → Against D (after D set past) (on e) (e .time)
 
 -- what the three say together, with no question asked: who is turned away is turned away by another channel's transaction that began less than 12,800 ms
@@ -213,7 +230,7 @@ pub record HeldBy (D : AnyDevice) (set : Settings) (past : List Event) (c time :
 
 abbrev pub NoneShutOut : AnyDevice → Type 0
 NoneShutOut D =
-    (set : Settings) → set .maximum ≤ 7609 → (past : List Event) (e : Event) → Taken (e ∷ past) → e .disabled ≡ false
+    (set : Settings) → Permitted set → (past : List Event) (e : Event) → Taken (e ∷ past) → e .disabled ≡ false
     → answer D set past e ≡ busyOn (on e) → HeldBy D set past (on e) (e .time)
 
 -- ---- demand 3, all of it
@@ -228,11 +245,11 @@ pub record GivesShare (D : AnyDevice) : Type 0 where
 -- it answers as the standard's transport does, whenever no call is refused
 abbrev pub Agrees : AnyDevice → Type 0
 Agrees D =
-    (set : Settings) → set .maximum ≤ 7609 → (past : List Event) (e : Event) → Taken (e ∷ past) → answer D set past e ≡ answer standard set past e
+    (set : Settings) → Permitted set → (past : List Event) (e : Event) → Taken (e ∷ past) → answer D set past e ≡ answer standard set past e
 
 -- and answers its two questions as the standard's transport does, at any time that isn't past
 abbrev pub AnswersAlike : AnyDevice → Type 0
 AnswersAlike D =
-    (set : Settings) → set .maximum ≤ 7609 → (past : List Event) → Taken past → (c time : ℕ) → latest past ≤ time
+    (set : Settings) → Permitted set → (past : List Event) → Taken past → (c time : ℕ) → latest past ≤ time
     → (D .isOn (after D set past) c time ≡ standard .isOn (after standard set past) c time)
     × (D .isLockedBy (after D set past) c time ≡ standard .isLockedBy (after standard set past) c time)

@@ -2,7 +2,7 @@
 use Prim.Native.Nat.{ℕ}
 
 pub data Refusal : Type 0 where
-  PacketSize ShortBuffer Unsound Time Maximum Index LongPayload LongPing Sequence LongReply NotInit Command : Refusal
+  PacketSize ShortBuffer Unsound Time Maximum Index LongPayload LongPing Sequence LongReply NotInit Command Vendor : Refusal
 
 abbrev pub refusalNumber : Refusal → ℕ
 -- the packet slice, read or written, isn't 64 bytes
@@ -29,3 +29,5 @@ refusalNumber LongReply = 10
 refusalNumber NotInit = 11
 -- a command above 127 to be sent
 refusalNumber Command = 12
+-- set-up with a number that isn't the vendor's, 64 to 127
+refusalNumber Vendor = 13

@@ -4,16 +4,16 @@ use mathlib.Core.Path.{_≡_}
 use mathlib.Core.List.{List, [], _∷_, _++_, map}
 use mathlib.Core.Bool.{true, false}
 use lib.ListN.{length, getD, replicate}
-use Rattle.ctaphid.specs.Choice.{refusing}
+use Rattle.ctaphid.specs.Choice.{refusing, isIn}
 use Rattle.ctaphid.specs.Packets.{initialization, continuation, byte, read, Bytes, Formed}
 use Rattle.ctaphid.specs.Messages.{count, wire, splitWire}
-use Rattle.ctaphid.specs.Commands.{MSG, CBOR, INIT, PING, CANCEL, ERROR, KEEPALIVE, WINK, LOCK, number, is, commandOf}
+use Rattle.ctaphid.specs.Commands.{MSG, CBOR, INIT, PING, CANCEL, ERROR, KEEPALIVE, WINK, LOCK, VENDOR, number, isVendor, is, commandOf}
 use Rattle.ctaphid.specs.Errors.{InvalidCmd, InvalidPar, InvalidLen, InvalidSeq, MsgTimeout, ChannelBusy, LockRequired, InvalidChannel, Other, code}
 use Rattle.ctaphid.specs.Capabilities.{wink, cbor, nmsg, bit, capabilities}
 use Rattle.ctaphid.specs.Limits.{packetSize, largest, shortReply, timeout, winkTime, lastTime}
 use Rattle.ctaphid.specs.Receiver.{Receiver, idle, isOn}
 use Rattle.ctaphid.specs.Transport.{Settings, Lock, free, Transport, fresh, Event, Answer, nothing, reply, request, isValid, isLocked, isLockedBy, isLockedAgainst, withAllocated, withLock, withReceiver, step, run}
-use Rattle.ctaphid.specs.Refusals.{PacketSize, ShortBuffer, Unsound, Time, Maximum, Index, LongPayload, LongPing, Sequence, LongReply, NotInit, Command, refusalNumber}
+use Rattle.ctaphid.specs.Refusals.{PacketSize, ShortBuffer, Unsound, Time, Maximum, Index, LongPayload, LongPing, Sequence, LongReply, NotInit, Command, Vendor, refusalNumber}
 use Rattle.ctaphid.specs.Device.{Device, device, setUp, deviceStep, deviceRun, isWinking}
 
 -- ---- what a row is made of
@@ -48,17 +48,21 @@ abbrev pub transportOf : Settings → (channels : ℕ) → Transport
 transportOf set n = record { settings = set; allocated = n; lock = free; receiver = idle }
 
 abbrev pub full : Settings
-full = record { maximum = 7609; u2f = true }
+full = record { maximum = 7609; u2f = true; vendor = [] }
 
 abbrev pub having : (channels : ℕ) → Device
 having n = device (transportOf full n) 0
 
 -- without U2F, and with a maximum of 100
 abbrev pub without : Device
-without = device (transportOf (record { maximum = 7609; u2f = false }) 2) 0
+without = device (transportOf (record { maximum = 7609; u2f = false; vendor = [] }) 2) 0
 
 abbrev pub small : Device
-small = device (transportOf (record { maximum = 100; u2f = true }) 2) 0
+small = device (transportOf (record { maximum = 100; u2f = true; vendor = [] }) 2) 0
+
+-- with two of the vendor's commands, of which one stands twice on the list
+abbrev pub branded : Device
+branded = device (transportOf (record { maximum = 7609; u2f = true; vendor = 127 ∷ 64 ∷ 127 ∷ [] }) 2) 0
 
 -- how a device answers a run of events, and what it has become
 abbrev pub answers : Device → List Event → List Shown
@@ -179,16 +183,19 @@ begunAt0 = step (transportOf full 2) (at 0 begin60) .state .receiver
 
 pub record FurtherRows : Type 0 where
   -- tables of numbers
-  pub commands : map number (MSG ∷ CBOR ∷ INIT ∷ PING ∷ CANCEL ∷ ERROR ∷ KEEPALIVE ∷ WINK ∷ LOCK ∷ []) ≡ 3 ∷ 16 ∷ 6 ∷ 1 ∷ 17 ∷ 63 ∷ 59 ∷ 8 ∷ 4 ∷ []
-  pub read-commands : map commandOf (0 ∷ 1 ∷ 2 ∷ 3 ∷ 4 ∷ 5 ∷ 6 ∷ 7 ∷ 8 ∷ 9 ∷ 16 ∷ 17 ∷ 59 ∷ 63 ∷ 127 ∷ [])
-      ≡ ERROR ∷ PING ∷ ERROR ∷ MSG ∷ LOCK ∷ ERROR ∷ INIT ∷ ERROR ∷ WINK ∷ ERROR ∷ CBOR ∷ CANCEL ∷ KEEPALIVE ∷ ERROR ∷ ERROR ∷ []
+  pub commands : map number (MSG ∷ CBOR ∷ INIT ∷ PING ∷ CANCEL ∷ ERROR ∷ KEEPALIVE ∷ WINK ∷ LOCK ∷ VENDOR 65 ∷ []) ≡ 3 ∷ 16 ∷ 6 ∷ 1 ∷ 17 ∷ 63 ∷ 59 ∷ 8 ∷ 4 ∷ 65 ∷ []
+  pub read-commands : map commandOf (0 ∷ 1 ∷ 2 ∷ 3 ∷ 4 ∷ 5 ∷ 6 ∷ 7 ∷ 8 ∷ 9 ∷ 16 ∷ 17 ∷ 59 ∷ 62 ∷ 63 ∷ 64 ∷ 127 ∷ 128 ∷ [])
+      ≡ ERROR ∷ PING ∷ ERROR ∷ MSG ∷ LOCK ∷ ERROR ∷ INIT ∷ ERROR ∷ WINK ∷ ERROR ∷ CBOR ∷ CANCEL ∷ KEEPALIVE ∷ ERROR ∷ ERROR ∷ VENDOR 64 ∷ VENDOR 127 ∷ ERROR ∷ []
+  pub vendor-numbers : map isVendor (0 ∷ 63 ∷ 64 ∷ 127 ∷ 128 ∷ []) ≡ false ∷ false ∷ true ∷ true ∷ false ∷ []
+  -- whether a number is in a list
+  pub in-list : map (λ (n : ℕ). isIn n (127 ∷ 64 ∷ 127 ∷ [])) (63 ∷ 64 ∷ 65 ∷ 127 ∷ []) ≡ false ∷ true ∷ false ∷ true ∷ []
   pub same-commands : (is WINK WINK ≡ true) × (is WINK MSG ≡ false)
   pub errors : map code (InvalidCmd ∷ InvalidPar ∷ InvalidLen ∷ InvalidSeq ∷ MsgTimeout ∷ ChannelBusy ∷ LockRequired ∷ InvalidChannel ∷ Other ∷ [])
       ≡ 1 ∷ 2 ∷ 3 ∷ 4 ∷ 5 ∷ 6 ∷ 10 ∷ 11 ∷ 127 ∷ []
   pub capability-bits : map bit (wink ∷ cbor ∷ nmsg ∷ []) ≡ 1 ∷ 4 ∷ 8 ∷ []
   pub capability-bytes : map capabilities (true ∷ false ∷ []) ≡ 5 ∷ 13 ∷ []
-  pub refusal-numbers : map refusalNumber (PacketSize ∷ ShortBuffer ∷ Unsound ∷ Time ∷ Maximum ∷ Index ∷ LongPayload ∷ LongPing ∷ Sequence ∷ LongReply ∷ NotInit ∷ Command ∷ [])
-      ≡ 1 ∷ 2 ∷ 3 ∷ 4 ∷ 5 ∷ 6 ∷ 7 ∷ 8 ∷ 9 ∷ 10 ∷ 11 ∷ 12 ∷ []
+  pub refusal-numbers : map refusalNumber (PacketSize ∷ ShortBuffer ∷ Unsound ∷ Time ∷ Maximum ∷ Index ∷ LongPayload ∷ LongPing ∷ Sequence ∷ LongReply ∷ NotInit ∷ Command ∷ Vendor ∷ [])
+      ≡ 1 ∷ 2 ∷ 3 ∷ 4 ∷ 5 ∷ 6 ∷ 7 ∷ 8 ∷ 9 ∷ 10 ∷ 11 ∷ 12 ∷ 13 ∷ []
   pub limits : packetSize ∷ largest ∷ shortReply ∷ timeout ∷ winkTime ∷ lastTime ∷ [] ≡ 64 ∷ 7609 ∷ 17 ∷ 100 ∷ 5000 ∷ 281474976710655 ∷ []
   -- the first test that holds refuses; where none does, none
   pub refuses : (refusing (λ (n : ℕ). n) ((false, 3) ∷ (true, 4) ∷ (true, 5) ∷ []) 9 ≡ 4) × (refusing (λ (n : ℕ). n) ((false, 3) ∷ []) 9 ≡ 9)
@@ -334,6 +341,14 @@ pub record FurtherRows : Type 0 where
   -- CANCEL gets nothing; KEEPALIVE, ERROR and an unknown command get InvalidCmd
   pub no-requests : answers (having 2) (at 0 (on 1 ++ (0x91 ∷ [])) ∷ at 0 (on 1 ++ (0xbb ∷ [])) ∷ at 0 (on 1 ++ (0xbf ∷ [])) ∷ at 0 (on 1 ++ (0x82 ∷ [])) ∷ [])
       ≡ none ∷ told 1 1 ∷ told 1 1 ∷ told 1 1 ∷ []
+  -- with 64 and 127 allowed: both are handed out, of any length; 65 gets InvalidCmd when it is whole, as each does where none is allowed
+  pub vendor-out : answers branded (at 0 (on 1 ++ (0xc0 ∷ 0 ∷ 1 ∷ 9 ∷ [])) ∷ at 0 (on 2 ++ (0xff ∷ [])) ∷ at 0 (on 1 ++ (0xc1 ∷ 0 ∷ 1 ∷ 9 ∷ [])) ∷ [])
+      ≡ hands 1 64 (9 ∷ []) ∷ hands 2 127 [] ∷ told 1 1 ∷ []
+  pub vendor-60 : answers branded (at 0 (on 1 ++ (0xff ∷ 0 ∷ 60 ∷ replicate 57 7)) ∷ at 99 (goOn 0) ∷ []) ≡ none ∷ hands 1 127 (replicate 57 7 ++ (8 ∷ 9 ∷ 10 ∷ [])) ∷ []
+  pub vendor-late : answers branded (at 0 (on 1 ++ (0xc1 ∷ 0 ∷ 60 ∷ replicate 57 7)) ∷ at 99 (goOn 0) ∷ []) ≡ none ∷ told 1 1 ∷ []
+  pub vendor-none : answers (having 2) (at 0 (on 1 ++ (0xc0 ∷ [])) ∷ at 0 (on 1 ++ (0xff ∷ [])) ∷ []) ≡ told 1 1 ∷ told 1 1 ∷ []
+  -- on the broadcast channel, and on one that isn't allocated: InvalidChannel
+  pub vendor-nowhere : answers branded (at 0 (everywhere ++ (0xc0 ∷ [])) ∷ at 0 (on 3 ++ (0xc0 ∷ [])) ∷ []) ≡ told 0xffff_ffff 11 ∷ told 3 11 ∷ []
   -- MSG and CBOR are handed out; without U2F, MSG gets InvalidCmd, and INIT tells capabilities 13
   pub msg-in : answers (having 2) (at 0 (on 1 ++ (0x83 ∷ 0 ∷ 1 ∷ 9 ∷ [])) ∷ []) ≡ hands 1 3 (9 ∷ []) ∷ []
   pub msg-out : answers without (at 0 (on 1 ++ (0x83 ∷ 0 ∷ 1 ∷ 9 ∷ [])) ∷ at 0 (on 1 ++ (0x90 ∷ 0 ∷ 1 ∷ 9 ∷ [])) ∷ []) ≡ told 1 1 ∷ hands 1 16 (9 ∷ []) ∷ []
@@ -351,6 +366,7 @@ pub record FurtherRows : Type 0 where
   pub wink-ended : map (λ (front : List ℕ). isWinking (left (having 2) (at 0 winkOn1 ∷ at 0 front ∷ [])) 0)
       (pingOn 1 ∷ pingOn 9 ∷ lockOf 11 ∷ initOn everywhere ∷ (on 1 ++ (0x88 ∷ 0 ∷ 1 ∷ [])) ∷ (on 1 ++ (0x83 ∷ [])) ∷ (on 1 ++ (0x90 ∷ [])) ∷ (on 1 ++ (0x82 ∷ [])) ∷ [])
       ≡ false ∷ false ∷ false ∷ false ∷ false ∷ false ∷ false ∷ false ∷ []
+  pub wink-ended-vendor : map (λ (n : ℕ). isWinking (left branded (at 0 winkOn1 ∷ at 0 (on 1 ++ (n ∷ [])) ∷ [])) 0) (0xc0 ∷ 0xc1 ∷ []) ≡ false ∷ false ∷ []
   pub wink-ended-out : isWinking (left without (at 0 winkOn1 ∷ at 0 (on 1 ++ (0x83 ∷ [])) ∷ [])) 0 ≡ false
   pub wink-stays : map (λ (front : List ℕ). isWinking (left (having 2) (at 0 winkOn1 ∷ at 1 front ∷ [])) 2)
       (begin60 ∷ goOn 0 ∷ (on 1 ++ (0x91 ∷ [])) ∷ winkOn1 ∷ [])

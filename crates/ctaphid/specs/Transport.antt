@@ -1,20 +1,21 @@
 -- The transport: channels, lock and the commands that it serves itself (§11.2.3, §11.2.5, §11.2.6, §11.2.9). Checks 1 to 7 of docs/RULES.md. Assumes nothing.
-use Prim.Native.Nat.{ℕ, _+_, _*_}
+use Prim.Native.Nat.{ℕ, _+_, _*_, _≤_}
 use mathlib.Core.List.{List, [], _∷_, _++_}
 use mathlib.Core.Bool.{Bool, true, false, not}
 use lib.ListN.{length, getD}
 use lib.Dec.{ltb, leb, eqb}
-use Rattle.ctaphid.specs.Choice.{pick}
+use Rattle.ctaphid.specs.Choice.{pick, isIn}
 use Rattle.ctaphid.specs.Packets.{Packet, initialization, continuation, read, four}
-use Rattle.ctaphid.specs.Commands.{Command, MSG, CBOR, INIT, PING, CANCEL, ERROR, KEEPALIVE, WINK, LOCK, number, commandOf}
+use Rattle.ctaphid.specs.Commands.{Command, MSG, CBOR, INIT, PING, CANCEL, ERROR, KEEPALIVE, WINK, LOCK, VENDOR, number, commandOf}
 use Rattle.ctaphid.specs.Errors.{Error, InvalidCmd, InvalidPar, InvalidLen, ChannelBusy, InvalidChannel, code}
 use Rattle.ctaphid.specs.Capabilities.{capabilities}
 use Rattle.ctaphid.specs.Receiver.{Receiver, idle, Reception, silent, fault, whole, Turn, channelOf, receive}
 
--- the largest message that is taken, and whether the device has U2F
+-- the largest message that is taken, whether the device has U2F, and the numbers of the vendor commands that it allows
 pub record Settings : Type 0 where
   pub maximum : ℕ
   pub u2f : Bool
+  pub vendor : List ℕ
 
 -- §11.2.6: the channel that has locked the device, and the time from which on it no longer has
 pub record Lock : Type 0 where
@@ -132,18 +133,37 @@ onLock d time c payload =
     (next (withLock d (lockFor time c (getD payload 0 0))) (reply c LOCK [])))
     (next d (error c InvalidLen))
 
--- §11.2.9.1: PING is answered with the same data, CANCEL never (DIFFERENCES 19). MSG, CBOR and WINK are handed out, of any length (DIFFERENCES 20).
--- KEEPALIVE and ERROR are no requests, and other numbers are no commands: DIFFERENCES 1 and 21
+-- the commands that a device knows, by its settings: of the vendor's (§11.2.9.3) those on its list, and of the others all but KEEPALIVE and ERROR, which are
+-- no requests, nor is what reads as ERROR (DIFFERENCES 1 and 21)
+unfoldable pub knows : Settings → Command → Bool
+knows set MSG = true
+knows set CBOR = true
+knows set INIT = true
+knows set PING = true
+knows set CANCEL = true
+knows set ERROR = false
+knows set KEEPALIVE = false
+knows set WINK = true
+knows set LOCK = true
+knows set (VENDOR n) = isIn n (set .vendor)
+
+-- what it does with one that it knows. §11.2.9.1: PING is answered with the same data, CANCEL never (DIFFERENCES 19). MSG, CBOR, WINK and the vendor's are
+-- handed out, of any length (DIFFERENCES 20)
+unfoldable pub obey : Transport → (time channel : ℕ) → Command → List ℕ → Next Transport
+obey d time c MSG payload = next d (request c MSG payload)
+obey d time c CBOR payload = next d (request c CBOR payload)
+obey d time c INIT payload = onInit d c payload
+obey d time c PING payload = next d (reply c PING payload)
+obey d time c CANCEL payload = next d nothing
+obey d time c ERROR payload = next d nothing
+obey d time c KEEPALIVE payload = next d nothing
+obey d time c WINK payload = next d (request c WINK payload)
+obey d time c LOCK payload = onLock d time c payload
+obey d time c (VENDOR n) payload = next d (request c (VENDOR n) payload)
+
+-- §11.2.9.1.6: a command that it doesn't know is told so
 unfoldable pub dispatch : Transport → (time channel : ℕ) → Command → List ℕ → Next Transport
-dispatch d time c MSG payload = next d (request c MSG payload)
-dispatch d time c CBOR payload = next d (request c CBOR payload)
-dispatch d time c INIT payload = onInit d c payload
-dispatch d time c PING payload = next d (reply c PING payload)
-dispatch d time c CANCEL payload = next d nothing
-dispatch d time c ERROR payload = next d (error c InvalidCmd)
-dispatch d time c KEEPALIVE payload = next d (error c InvalidCmd)
-dispatch d time c WINK payload = next d (request c WINK payload)
-dispatch d time c LOCK payload = onLock d time c payload
+dispatch d time c cmd payload = pick (knows (d .settings) cmd) (obey d time c cmd payload) (next d (error c InvalidCmd))
 
 -- ---- a step
 

@@ -1,11 +1,14 @@
 -- Wrong devices, that Delivery must catch. Assumes nothing.
+use Prim.Native.Nat.{ℕ}
 use mathlib.Core.Path.{_≡_}
+use mathlib.Core.List.{List}
 use mathlib.Core.Bool.{true, false}
 use lib.Dec.{ltb}
 use Rattle.ctaphid.specs.Choice.{pick}
 use Rattle.ctaphid.specs.Packets.{Packet, initialization, continuation, read}
+use Rattle.ctaphid.specs.Commands.{VENDOR, number, isVendor}
 use Rattle.ctaphid.specs.Receiver.{isOn}
-use Rattle.ctaphid.specs.Transport.{Transport, Event, nothing, Next, next, fresh, isLockedBy, hear, step}
+use Rattle.ctaphid.specs.Transport.{Transport, Event, Answer, nothing, reply, request, Next, next, fresh, isLockedBy, hear, step}
 use Rattle.ctaphid.specs.Demands.{AnyDevice, on, First, busyOn}
 
 -- ---- answers ChannelBusy always, whatever its states and questions are
@@ -53,6 +56,32 @@ eager =
       State = Transport;
       setUp = fresh;
       step = λ d e. eagerly d e (read (e .packet));
+      isOn = λ d c time. isOn (d .receiver) c time;
+      isLockedBy = λ d c time. isLockedBy (d .lock) c time;
+    }
+
+-- ---- hands a vendor message out at no packet but a first one, whatever else it does
+pub record NoddingAtVendor (D : AnyDevice) : Type 0 where
+  pub nods : (s : D .State) (e : Event) → (First e → ⊥) → (c n : ℕ) (payload : List ℕ) → isVendor n ≡ true → D .step s e .answer ≡ request c (VENDOR n) payload → ⊥
+
+-- one of these: the standard's transport, but every vendor message is taken to end with its first packet
+abbrev pub hushed : Answer → Answer
+hushed nothing = nothing
+hushed (reply c cmd payload) = reply c cmd payload
+hushed (request c cmd payload) = pick (isVendor (number cmd)) nothing (request c cmd payload)
+
+abbrev pub eagerlyAtVendor : Transport → Event → Packet → Next Transport
+eagerlyAtVendor d e (initialization c cmd n field) =
+    hear d (e .time) (e .disabled) (initialization c cmd (pick (isVendor cmd) (pick (ltb 57 n) 57 n) n) field)
+eagerlyAtVendor d e (continuation c k field) =
+    next (hear d (e .time) (e .disabled) (continuation c k field) .state) (hushed (hear d (e .time) (e .disabled) (continuation c k field) .answer))
+
+abbrev pub eagerAtVendor : AnyDevice
+eagerAtVendor =
+    record {
+      State = Transport;
+      setUp = fresh;
+      step = λ d e. eagerlyAtVendor d e (read (e .packet));
       isOn = λ d c time. isOn (d .receiver) c time;
       isLockedBy = λ d c time. isLockedBy (d .lock) c time;
     }

@@ -186,10 +186,10 @@ pub struct MadeHid {
     pub refusal: u8,
 }
 
-pub fn transport_new(old: CtapHid, max: usize, u2f: u8) -> MadeHid
-    ensures { λ r. ⌜ r ≡ madeOf old (newOf max (isSet u2f)) ⌝ }
+pub fn transport_new(old: CtapHid, max: usize, u2f: u8, vendor: &[u8]) -> MadeHid
+    ensures { λ r. ⌜ r ≡ madeOf old (newOf max (isSet u2f) (now (vendor .entry))) ⌝ }
 {
-    match CtapHid::new(max, u2f != 0) {
+    match CtapHid::new(max, u2f != 0, vendor) {
         Ready::Hid(hid) => MadeHid { hid, refusal: 0 },
         Ready::Refused(number) => MadeHid {
             hid: old,
@@ -203,10 +203,10 @@ pub struct MadeMain {
     pub refusal: u8,
 }
 
-pub fn device_new(old: MainHid, max: usize, u2f: u8) -> MadeMain
-    ensures { λ r. ⌜ r ≡ mainMadeOf old (mainNewOf max (isSet u2f)) ⌝ }
+pub fn device_new(old: MainHid, max: usize, u2f: u8, vendor: &[u8]) -> MadeMain
+    ensures { λ r. ⌜ r ≡ mainMadeOf old (mainNewOf max (isSet u2f) (now (vendor .entry))) ⌝ }
 {
-    match MainHid::new(max, u2f != 0) {
+    match MainHid::new(max, u2f != 0, vendor) {
         MainReady::Hid(hid) => MadeMain { hid, refusal: 0 },
         MainReady::Refused(number) => MadeMain {
             hid: old,

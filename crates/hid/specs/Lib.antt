@@ -1,3 +1,4 @@
+pub mod Vendor
 pub mod Meaning
 pub mod Soundness
 pub mod SetUp

@@ -6,11 +6,12 @@ use lib.Dec.{eqb}
 use Rattle.ctaphid.specs.Transport as standard
 use Rattle.ctaphid.specs.Device.{Device, device}
 use Rattle.receive.specs.Meaning.{receiverOf, assemblerOf}
+use Rattle.hid.specs.Vendor.{vendorOf}
 use Rattle.hid.specs.declared.CtapHid.{CtapHid}
 use Rattle.hid.specs.declared.MainHid.{MainHid}
 
 abbrev pub settingsOf : CtapHid → standard.Settings
-settingsOf s = record { maximum = s .max; u2f = not (eqb (s .u2f) 0) }
+settingsOf s = record { maximum = s .max; u2f = not (eqb (s .u2f) 0); vendor = vendorOf (s .vendor) }
 
 abbrev pub transportOf : CtapHid → (message : List ℕ) → standard.Transport
 transportOf s m =
@@ -28,8 +29,10 @@ stateOf s time d =
       assembler = assemblerOf (d .receiver);
       lock = d .lock .until;
       last = time;
+      vendor = s .vendor;
       allocated = d .allocated;
       locked = d .lock .holder;
       max = s .max;
       u2f = s .u2f;
+      spare = s .spare;
     }

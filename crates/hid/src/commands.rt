@@ -4,11 +4,13 @@ use crate::CtapHid;
 use crate::Stepped;
 use crate::state::error_message;
 use crate::state::no_message;
+use crate::vendor::is_allowed;
 use packet::CtapHidCommand;
 use packet::CtapHidError;
 ghost use mathlib.Core.Path.{_≡_};
+ghost use mathlib.Core.Bool.{true};
 ghost use lib.ListN.{take};
-ghost use Rattle.ctaphid.specs.Commands.{commandOf};
+ghost use Rattle.ctaphid.specs.Commands.{VENDOR, isVendor, commandOf};
 ghost use Rattle.ctaphid.specs.Transport.{onInit, onLock, dispatch};
 ghost use Rattle.hid.specs.Meaning.{transportOf};
 ghost use Rattle.hid.specs.State.{serving, servedOf};
@@ -38,6 +40,7 @@ pub(crate) fn preprocess_message(
         CtapHidCommand::Lock => lock(hid, cid, len, message, reply),
         CtapHidCommand::Keepalive => error_message(hid, cid, CtapHidError::INVALID_CMD, reply),
         CtapHidCommand::Error => error_message(hid, cid, CtapHidError::INVALID_CMD, reply),
+        CtapHidCommand::Vendor(number) => vendor(hid, cid, number, len, message, reply),
     }
 }
 
@@ -48,6 +51,24 @@ fn hand_out(hid: CtapHid, cid: u32, cmd: CtapHidCommand, len: usize) -> Stepped
         hid,
         answer: Answer::Message { cid, cmd, len },
     }
+}
+
+// One of the vendor's: handed out where set-up allowed it.
+fn vendor(
+    hid: CtapHid,
+    cid: u32,
+    number: u8,
+    len: usize,
+    message: &[u8],
+    reply: &mut [u8],
+) -> Stepped
+    requires { ⌜ Serves hid len (now message) (now reply) × (isVendor number ≡ true) ⌝ }
+    ensures { λ r. ⌜ serving r (now (reply .exit)) ≡ servedOf hid (hid .last) (dispatch (transportOf hid (now (message .entry))) (hid .last) cid (VENDOR number) (take len (now (message .entry)))) (now (reply .entry)) ⌝ }
+{
+    if is_allowed(hid.vendor, number) {
+        return hand_out(hid, cid, CtapHidCommand::Vendor(number), len);
+    }
+    error_message(hid, cid, CtapHidError::INVALID_CMD, reply)
 }
 
 fn init(hid: CtapHid, cid: u32, len: usize, message: &[u8], reply: &mut [u8]) -> Stepped

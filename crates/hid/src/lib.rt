@@ -10,6 +10,7 @@ mod shortcut;
 mod soundness;
 mod state;
 mod transport;
+mod vendor;
 
 pub use answers::Answer;
 pub use answers::echo;
@@ -17,16 +18,19 @@ pub use answers::payload;
 pub use receive::MessageAssembler;
 
 // Every state is numbers, without padding, so that one type serves Rattle, Rust and C. A timer is its deadline, 0 when unset.
-// The transport. Channels 1 to allocated are allocated; locked holds the lock until the time lock; u2f is 0 for a key without.
+// The transport. Channels 1 to allocated are allocated; locked holds the lock until the time lock; u2f is 0 for a key without; vendor has a bit for each of the
+// vendor's 64 numbers, the lowest for 64. spare is ignored, and stays as it is.
 #[repr(C)]
 pub struct CtapHid {
     pub assembler: MessageAssembler,
     pub lock: u64,
     pub last: u64,
+    pub vendor: u64,
     pub allocated: u32,
     pub locked: u32,
     pub max: u32,
     pub u2f: u32,
+    pub spare: u64,
 }
 
 // The transport and the wink, which runs until the time wink.

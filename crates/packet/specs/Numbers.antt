@@ -4,13 +4,13 @@ use Rattle.ctaphid.specs.Errors as errors
 use Rattle.ctaphid.specs.Capabilities as capabilities
 use Rattle.ctaphid.specs.Refusals as refusals
 use Rattle.packet.specs.declared.command.CtapHidCommand.{CtapHidCommand}
-use Rattle.packet.specs.declared.command.CtapHidCommand.the-variants.{Ping, Msg, Lock, Init, Wink, Cbor, Cancel, Keepalive, Error}
+use Rattle.packet.specs.declared.command.CtapHidCommand.the-variants.{Ping, Msg, Lock, Init, Wink, Cbor, Cancel, Keepalive, Error, Vendor}
 use Rattle.packet.specs.declared.error.CtapHidError.{CtapHidError}
 use Rattle.packet.specs.declared.error.CtapHidError.the-variants.{InvalidCmd, InvalidPar, InvalidLen, InvalidSeq, MsgTimeout, ChannelBusy, InvalidChannel}
 use Rattle.packet.specs.declared.capability.Capability.{Capability}
 use Rattle.packet.specs.declared.capability.Capability.the-variants.{Wink as HasWink, Cbor as HasCbor, Nmsg}
 use Rattle.packet.specs.declared.refusal.Refusal.{Refusal}
-use Rattle.packet.specs.declared.refusal.Refusal.the-variants.{PacketSize, ShortBuffer, Unsound, Time, Maximum, Index, LongPayload, LongPing, Sequence, LongReply, NotInit, Command}
+use Rattle.packet.specs.declared.refusal.Refusal.the-variants.{PacketSize, ShortBuffer, Unsound, Time, Maximum, Index, LongPayload, LongPing, Sequence, LongReply, NotInit, Command, Vendor as NotVendor}
 
 abbrev pub commandMeant : CtapHidCommand → standard.Command
 commandMeant Ping = standard.PING
@@ -22,6 +22,7 @@ commandMeant Cbor = standard.CBOR
 commandMeant Cancel = standard.CANCEL
 commandMeant Keepalive = standard.KEEPALIVE
 commandMeant Error = standard.ERROR
+commandMeant (Vendor n) = standard.VENDOR n
 
 -- and the case for each of the standard's commands
 abbrev pub commandCase : standard.Command → CtapHidCommand
@@ -34,6 +35,7 @@ commandCase standard.ERROR = Error
 commandCase standard.KEEPALIVE = Keepalive
 commandCase standard.WINK = Wink
 commandCase standard.LOCK = Lock
+commandCase (standard.VENDOR n) = Vendor n
 
 abbrev pub errorMeant : CtapHidError → errors.Error
 errorMeant InvalidCmd = errors.InvalidCmd
@@ -62,3 +64,4 @@ refusalMeant Sequence = refusals.Sequence
 refusalMeant LongReply = refusals.LongReply
 refusalMeant NotInit = refusals.NotInit
 refusalMeant Command = refusals.Command
+refusalMeant NotVendor = refusals.Vendor

@@ -1,6 +1,6 @@
 // The commands, and their numbers both ways.
 ghost use mathlib.Core.Path.{_≡_};
-ghost use Rattle.ctaphid.specs.Commands.{commandOf, number};
+ghost use Rattle.ctaphid.specs.Commands.{commandOf, number, isVendor};
 ghost use Rattle.packet.specs.Numbers.{commandMeant};
 
 pub enum CtapHidCommand {
@@ -13,6 +13,8 @@ pub enum CtapHidCommand {
     Cancel,
     Keepalive,
     Error,
+    // One of the vendor's, with its number.
+    Vendor(u8),
 }
 
 impl CtapHidCommand {
@@ -34,7 +36,11 @@ impl CtapHidCommand {
 
     pub const ERROR: u8 = 0x3F;
 
-    // Any number that is not listed reads as Error, as in the Rust (docs/DIFFERENCES.md, 1).
+    pub const VENDOR_FIRST: u8 = 0x40;
+
+    pub const VENDOR_LAST: u8 = 0x7F;
+
+    // Any other number reads as Error, as in the Rust (docs/DIFFERENCES.md, 1).
     pub fn from_u8(cmd: u8) -> Self
         ensures { λ r. ⌜ commandMeant r ≡ commandOf cmd ⌝ }
     {
@@ -54,9 +60,21 @@ impl CtapHidCommand {
             CtapHidCommand::Cancel
         } else if cmd == Self::KEEPALIVE {
             CtapHidCommand::Keepalive
+        } else if Self::is_vendor(cmd) {
+            CtapHidCommand::Vendor(cmd)
         } else {
             CtapHidCommand::Error
         }
+    }
+
+    // Whether the number is one of the vendor's.
+    pub fn is_vendor(cmd: u8) -> bool
+        ensures { λ r. ⌜ r ≡ isVendor cmd ⌝ }
+    {
+        if cmd < Self::VENDOR_FIRST {
+            return false;
+        }
+        cmd <= Self::VENDOR_LAST
     }
 
     pub fn number(self) -> u8
@@ -72,6 +90,7 @@ impl CtapHidCommand {
             CtapHidCommand::Cancel => Self::CANCEL,
             CtapHidCommand::Keepalive => Self::KEEPALIVE,
             CtapHidCommand::Error => Self::ERROR,
+            CtapHidCommand::Vendor(number) => number,
         }
     }
 }

@@ -16,6 +16,7 @@ pub enum Refusal {
     LongReply,
     NotInit,
     Command,
+    Vendor,
 }
 
 impl Refusal {
@@ -43,6 +44,8 @@ impl Refusal {
 
     pub const COMMAND: u8 = 12;
 
+    pub const VENDOR: u8 = 13;
+
     pub fn number(self) -> u8
         ensures { λ r. ⌜ r ≡ refusalNumber (refusalMeant self) ⌝ }
     {
@@ -59,6 +62,7 @@ impl Refusal {
             Refusal::LongReply => Self::LONG_REPLY,
             Refusal::NotInit => Self::NOT_INIT,
             Refusal::Command => Self::COMMAND,
+            Refusal::Vendor => Self::VENDOR,
         }
     }
 }
