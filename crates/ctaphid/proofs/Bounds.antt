@@ -12,13 +12,13 @@ use lib.ListN.{length, take, getD}
 use lib.Seq.{length-take-le}
 use Rattle.ctaphid.specs.Choice.{pick}
 use Rattle.ctaphid.specs.Packets.{Packet, initialization, continuation, read}
-use Rattle.ctaphid.specs.Commands.{Command, MSG, CBOR, INIT, PING, CANCEL, ERROR, KEEPALIVE, WINK, LOCK, number, commandOf, commands}
+use Rattle.ctaphid.specs.Commands.{Command, MSG, CBOR, INIT, PING, CANCEL, ERROR, KEEPALIVE, WINK, LOCK, number, commandOf, commands, VENDOR}
 use Rattle.ctaphid.specs.Errors.{Error, InvalidCmd, InvalidPar, InvalidLen, ChannelBusy, code}
 use Rattle.ctaphid.specs.Receiver.{Transaction, Receiver, idle, busy, Reception, silent, fault, whole, Turn, channelOf, collect, start, whenIdle, whenOver, onOwn, whenBusy, receive, isOn}
-use Rattle.ctaphid.specs.Transport.{Settings, Lock, Transport, Event, Answer, nothing, reply, request, Next, error, notValid, isLocked, isLockedBy, onInit, lockFor, onLock, dispatch, settle, hear, withReceiver}
+use Rattle.ctaphid.specs.Transport.{Settings, Lock, Transport, Event, Answer, nothing, reply, request, Next, error, notValid, isLocked, isLockedBy, onInit, lockFor, onLock, dispatch, settle, hear, withReceiver, knows, obey}
 use Rattle.ctaphid.specs.Demands.{standard, Taken, latest, after, answer, Begun, Since, TransactionsEndWithin, TransactionsEnd, Locked, LocksEnd}
 use Rattle.ctaphid.proofs.Tests.{pick-true, pick-both, pick-known}
-use Rattle.ctaphid.proofs.Invariant.{Runs, Receives, Holds, holds-later, among-lock, keeps-dispatch}
+use Rattle.ctaphid.proofs.Invariant.{Runs, Receives, Holds, holds-later, reads-lock, keeps-dispatch}
 use Rattle.ctaphid.proofs.Histories.{settings-after, holds-after, IsFirst, first-read, read-is-first, on-read, AsksFor, asks-lock}
 
 -- ---- the receiver
@@ -208,7 +208,7 @@ transactions-end-sharp set large past taken time onward c live =
         record {
           start = b .start;
           begun = subst (λ (o : ℕ). Began set past o (b .start)) (eqb-true (t .channel) c (on .0)) (b .begun);
-          within = omega (arith, early, maximum, large, k .most, k .below, k .bytes, b .within);
+          within = omega (arith, early, maximum, large .most, k .most, k .below, k .bytes, b .within);
         }
 
 pub transactions-end : TransactionsEnd standard
@@ -310,17 +310,23 @@ module _ (L : ℕ → ℕ → ℕ → Type 0) (time : ℕ) where
       both : (b : Bool) (x y : Next Transport) → HeldAfter L time p x → HeldAfter L time p y → HeldAfter L time p (pick b x y)
       both b x y q r = pick-both (λ (n : Next Transport). HeldAfter L time p n) b x y q r
 
+  obey-lock : (p : Packet) (d : Transport) (c cmd : ℕ) (x : Command) (payload : List ℕ) → commandOf cmd ≡ x → HeldIn L (d .lock) → Single p c cmd payload ⊎ (57 < length payload) → HeldAfter L time p (obey d time c x payload)
+  unfolding obey
+  obey-lock p d c cmd MSG payload e k w = kept-lock p (d .lock) (request c MSG payload) (λ z. omega arith) k
+  obey-lock p d c cmd CBOR payload e k w = kept-lock p (d .lock) (request c CBOR payload) (λ z. omega arith) k
+  obey-lock p d c cmd INIT payload e k w = init-lock p d c payload k
+  obey-lock p d c cmd PING payload e k w = kept-lock p (d .lock) (reply c PING payload) (λ z. omega arith) k
+  obey-lock p d c cmd CANCEL payload e k w = kept-lock p (d .lock) nothing (λ z. omega arith) k
+  obey-lock p d c cmd ERROR payload e k w = kept-lock p (d .lock) nothing (λ z. omega arith) k
+  obey-lock p d c cmd KEEPALIVE payload e k w = kept-lock p (d .lock) nothing (λ z. omega arith) k
+  obey-lock p d c cmd WINK payload e k w = kept-lock p (d .lock) (request c WINK payload) (λ z. omega arith) k
+  obey-lock p d c cmd LOCK payload e k w = lock-lock p d c cmd payload (reads-lock cmd e) k w
+  obey-lock p d c cmd (VENDOR n) payload e k w = kept-lock p (d .lock) (request c (VENDOR n) payload) (λ z. omega arith) k
+
   dispatch-lock : (p : Packet) (d : Transport) (c cmd : ℕ) (x : Command) (payload : List ℕ) → commandOf cmd ≡ x → HeldIn L (d .lock) → Single p c cmd payload ⊎ (57 < length payload) → HeldAfter L time p (dispatch d time c x payload)
   unfolding dispatch
-  dispatch-lock p d c cmd MSG payload e k w = kept-lock p (d .lock) (request c MSG payload) (λ z. omega arith) k
-  dispatch-lock p d c cmd CBOR payload e k w = kept-lock p (d .lock) (request c CBOR payload) (λ z. omega arith) k
-  dispatch-lock p d c cmd INIT payload e k w = init-lock p d c payload k
-  dispatch-lock p d c cmd PING payload e k w = kept-lock p (d .lock) (reply c PING payload) (λ z. omega arith) k
-  dispatch-lock p d c cmd CANCEL payload e k w = kept-lock p (d .lock) nothing (λ z. omega arith) k
-  dispatch-lock p d c cmd ERROR payload e k w = kept-lock p (d .lock) (error c InvalidCmd) (λ z. omega arith) k
-  dispatch-lock p d c cmd KEEPALIVE payload e k w = kept-lock p (d .lock) (error c InvalidCmd) (λ z. omega arith) k
-  dispatch-lock p d c cmd WINK payload e k w = kept-lock p (d .lock) (request c WINK payload) (λ z. omega arith) k
-  dispatch-lock p d c cmd LOCK payload e k w = lock-lock p d c cmd payload (among-lock commands cmd e) k w
+  dispatch-lock p d c cmd x payload e k w =
+      pick-both (λ (n : Next Transport). HeldAfter L time p n) (knows (d .settings) x) _ _ (obey-lock p d c cmd x payload e k w) (kept-lock p (d .lock) (error c InvalidCmd) (λ z. omega arith) k)
 
   settle-lock : (p : Packet) (d : Transport) (c : ℕ) (b : Reception) → HeldIn L (d .lock) → Whence p b → HeldAfter L time p (settle d time c b)
   unfolding settle

@@ -4,7 +4,7 @@ use mathlib.Core.Path.{sym, subst, _∙_}
 use mathlib.Core.List.{List, [], _∷_}
 use mathlib.Core.Logic.{⊎-elim}
 use Rattle.ctaphid.specs.Transport.{Settings, Event, Answer}
-use Rattle.ctaphid.specs.Demands.{AnyDevice, standard, Taken, after, Sent, Hushed, Ends, Delivery, Agrees}
+use Rattle.ctaphid.specs.Demands.{AnyDevice, standard, Permitted, Taken, after, Sent, Hushed, Ends, Delivery, Agrees}
 use Rattle.ctaphid.proofs.Deliver.{delivery}
 
 -- no call is refused in what follows a history
@@ -21,7 +21,7 @@ sent-follows c deadline (p ∷ ps) (f ∷ rest) e past taken w =
       ⊎-elim (λ o. sent-follows c _ ps rest f (e ∷ past) next (o .3)) (λ o. sent-follows c _ (p ∷ ps) rest f (e ∷ past) next (o .1)) (w .2),
     )
 
-module _ (D : AnyDevice) (agrees : Agrees D) (set : Settings) (large : set .maximum ≤ 7609) where
+module _ (D : AnyDevice) (agrees : Agrees D) (set : Settings) (large : Permitted set) where
   ends-carried : (c : ℕ) (a : Answer) (events past : List Event) → Follows past events → Ends standard (after standard set past) c a events → Ends D (after D set past) c a events
   ends-carried c a [] past f k = k
   ends-carried c a (e ∷ []) past f k = agrees set large past e (f .0) ∙ k
@@ -31,8 +31,8 @@ module _ (D : AnyDevice) (agrees : Agrees D) (set : Settings) (large : set .maxi
   )
 
 pub delivery-carried : (D : AnyDevice) → Agrees D → Delivery D
-delivery-carried D agrees set large past taken c m payload fits e rest is-open sending =
+delivery-carried D agrees set large past taken c m allowed payload fits e rest is-open sending =
     let first : Taken (e ∷ past) = (sending .proper, sending .onward, taken) in
     ends-carried D agrees set large c _ (e ∷ rest) past
     (first, sent-follows c _ (sending .following) rest e past first (sending .followed))
-    (delivery set large past taken c m payload fits e rest is-open sending)
+    (delivery set large past taken c m allowed payload fits e rest is-open sending)

@@ -4,12 +4,12 @@ use mathlib.Core.Path.{sym, _∙_}
 use mathlib.Core.List.{List, [], _∷_}
 use mathlib.Core.Logic.{inl, inr, ⊎-elim}
 use Rattle.ctaphid.specs.Transport.{Settings, Event}
-use Rattle.ctaphid.specs.Demands.{AnyDevice, standard, Taken, on, Begun, Since, TransactionsEndWithin, TransactionsEnd, Locked, Holding, LocksEnd, Against, Honest, HeldBy, NoneShutOut, Agrees, AnswersAlike}
+use Rattle.ctaphid.specs.Demands.{AnyDevice, standard, Permitted, Taken, on, Begun, Since, TransactionsEndWithin, TransactionsEnd, Locked, Holding, LocksEnd, Against, Honest, HeldBy, NoneShutOut, Agrees, AnswersAlike}
 use Rattle.ctaphid.proofs.Bounds.{transactions-end-sharp, transactions-end, locks-end}
 use Rattle.ctaphid.proofs.Shut.{honest, none-shut-out}
 
 -- ---- what a history says is the same of both
-module _ (D : AnyDevice) (agrees : Agrees D) (set : Settings) (large : set .maximum ≤ 7609) where
+module _ (D : AnyDevice) (agrees : Agrees D) (set : Settings) (large : Permitted set) where
   begun-carried : (c t : ℕ) (past : List Event) → Taken past → Begun standard set c past t → Begun D set c past t
   begun-carried c t [] taken b = b
   begun-carried c t (e ∷ past) taken (inl b) = inl (b .0, b .1, agrees set large past e taken ∙ b .2, b .3)

@@ -1,28 +1,97 @@
 -- Numbers read as commands. Assumes nothing.
-use Prim.Native.Nat.{ℕ}
-use mathlib.Core.Path.{_≡_, refl, sym}
-use borrow.Author.Tests.{ne-eqb}
-use lib.Dec.{eqb}
+use Prim.Native.Nat.{ℕ, _+_, _≤_, _<_}
+use native.Mathlib.Omega.{arith}
+use mathlib.Core.Path.{_≡_, refl, sym, ap, subst, _∙_}
+use mathlib.Core.Bool.{true, false}
+use borrow.Author.Tests.{ne-eqb, lt-leb, le-leb, leb-true}
+use lib.Dec.{eqb, leb}
 use Rattle.ctaphid.specs.Choice.{pick}
-use Rattle.ctaphid.proofs.Tests.{pick-same}
-use Rattle.ctaphid.specs.Commands.{Command, MSG, CBOR, INIT, PING, CANCEL, ERROR, KEEPALIVE, WINK, LOCK, number, among, commandOf}
+use Rattle.ctaphid.proofs.Tests.{pick-same, pick-true, pick-both, pick-known}
+use Rattle.ctaphid.specs.Commands.{Command, MSG, CBOR, INIT, PING, CANCEL, ERROR, KEEPALIVE, WINK, LOCK, VENDOR, number, isVendor, commands, among, commandOf}
+
+-- ---- the vendor's numbers
+
+pub vendor-range : (n : ℕ) → isVendor n ≡ true → (64 ≤ n) × (n ≤ 127)
+unfolding isVendor
+vendor-range n h = let p = pick-true (leb 64 n) (leb n 127) h in (leb-true 64 n (p .0), leb-true n 127 (p .1))
+
+pub is-vendor : (n : ℕ) → 64 ≤ n → n ≤ 127 → isVendor n ≡ true
+unfolding isVendor pick
+is-vendor n h k = simp (le-leb 64 n h, le-leb n 127 k)
+
+pub below-vendor : (n : ℕ) → n < 64 → isVendor n ≡ false
+unfolding isVendor pick
+below-vendor n h = simp (lt-leb 64 n h)
+
+pub above-vendor : (n : ℕ) → 127 < n → isVendor n ≡ false
+unfolding isVendor pick
+above-vendor n h = let low : 64 ≤ n = omega arith in simp (le-leb 64 n low, lt-leb n 127 h)
+
+pub vendor-read : (n : ℕ) → isVendor n ≡ true → VENDOR n ≡ commandOf n
+unfolding pick
+vendor-read n h = simp h
+
+-- the number that a command of the vendor's has, and 0 for any other
+abbrev vendorIn : Command → ℕ
+vendorIn MSG = 0
+vendorIn CBOR = 0
+vendorIn INIT = 0
+vendorIn PING = 0
+vendorIn CANCEL = 0
+vendorIn ERROR = 0
+vendorIn KEEPALIVE = 0
+vendorIn WINK = 0
+vendorIn LOCK = 0
+vendorIn (VENDOR n) = n + 1
+
+-- no named number reads as the vendor's
+none-among : (n : ℕ) → vendorIn (among commands n) ≡ 0
+unfolding among
+none-among n =
+    pick-both Not _ _ _ refl (pick-both Not _ _ _ refl (pick-both Not _ _ _ refl (pick-both Not _ _ _ refl (pick-both Not _ _ _ refl (pick-both Not _ _ _ refl (pick-both Not _ _ _ refl (pick-both Not _ _ _ refl (pick-both Not _ _ _ refl refl))))))))
+  where
+    Not : Command → Type 0
+    Not k = vendorIn k ≡ 0
+
+-- a number that reads as one of the vendor's is its number
+pub reads-vendor : (n k : ℕ) → VENDOR k ≡ commandOf n → isVendor k ≡ true
+reads-vendor n k =
+    pick-known (λ (x : Command). VENDOR k ≡ x → isVendor k ≡ true) (isVendor n) _ _
+    (λ v e. let same : k + 1 ≡ n + 1 = ap vendorIn e in subst (λ (t : ℕ). isVendor t ≡ true) (omega arith) v)
+    (λ v e. absurd (omega (arith, ap vendorIn e ∙ none-among n)))
+
+-- ---- the others
+
+-- what can be read: any, but of the vendor's those with its numbers
+abbrev pub Named : Command → Type 0
+Named MSG = Unit {0}
+Named CBOR = Unit {0}
+Named INIT = Unit {0}
+Named PING = Unit {0}
+Named CANCEL = Unit {0}
+Named ERROR = Unit {0}
+Named KEEPALIVE = Unit {0}
+Named WINK = Unit {0}
+Named LOCK = Unit {0}
+Named (VENDOR n) = isVendor n ≡ true
 
 -- reading a command's number gives the command: so no two have the same number
-pub command-of-number : (c : Command) → commandOf (number c) ≡ c
-unfolding pick among
-command-of-number MSG = refl
-command-of-number CBOR = refl
-command-of-number INIT = refl
-command-of-number PING = refl
-command-of-number CANCEL = refl
-command-of-number ERROR = refl
-command-of-number KEEPALIVE = refl
-command-of-number WINK = refl
-command-of-number LOCK = refl
+pub command-of-number : (c : Command) → Named c → commandOf (number c) ≡ c
+unfolding isVendor pick among
+command-of-number MSG h = refl
+command-of-number CBOR h = refl
+command-of-number INIT h = refl
+command-of-number PING h = refl
+command-of-number CANCEL h = refl
+command-of-number ERROR h = refl
+command-of-number KEEPALIVE h = refl
+command-of-number WINK h = refl
+command-of-number LOCK h = refl
+command-of-number (VENDOR n) h = sym (vendor-read n h)
 
--- a number that is none of the others' reads as ERROR
-pub unlisted : (n : ℕ) → (n ≡ 0x01 → ⊥) → (n ≡ 0x03 → ⊥) → (n ≡ 0x04 → ⊥) → (n ≡ 0x06 → ⊥) → (n ≡ 0x08 → ⊥) → (n ≡ 0x10 → ⊥) → (n ≡ 0x11 → ⊥) → (n ≡ 0x3b → ⊥) → ERROR ≡ commandOf n
+-- a number that is neither the vendor's nor any of the others' reads as ERROR
+pub unlisted : (n : ℕ) → (n ≡ 0x01 → ⊥) → (n ≡ 0x03 → ⊥) → (n ≡ 0x04 → ⊥) → (n ≡ 0x06 → ⊥) → (n ≡ 0x08 → ⊥) → (n ≡ 0x10 → ⊥) → (n ≡ 0x11 → ⊥) → (n ≡ 0x3b → ⊥) → isVendor n ≡ false → ERROR ≡ commandOf n
 unfolding pick among
-unlisted n ping msg lock init wink cbor cancel keepalive =
-    simp (ne-eqb _ _ ping, ne-eqb _ _ msg, ne-eqb _ _ lock, ne-eqb _ _ init, ne-eqb _ _ wink, ne-eqb _ _ cbor, ne-eqb _ _ cancel, ne-eqb _ _ keepalive)
+unlisted n ping msg lock init wink cbor cancel keepalive other =
+    simp (other, ne-eqb _ _ ping, ne-eqb _ _ msg, ne-eqb _ _ lock, ne-eqb _ _ init, ne-eqb _ _ wink, ne-eqb _ _ cbor, ne-eqb _ _ cancel, ne-eqb _ _ keepalive)
     (sym (pick-same (eqb n 0x3f) ERROR))

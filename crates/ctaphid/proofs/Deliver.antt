@@ -15,12 +15,13 @@ use Rattle.ctaphid.specs.Packets.{Packet, initialization, continuation, 
 use Rattle.ctaphid.specs.Messages.{later, chunks, padded, fields, continuations, packets, wire}
 use Rattle.ctaphid.specs.Limits.{timeout}
 use Rattle.ctaphid.specs.Receiver.{Transaction, idle, busy, silent, whole, Turn, turn, collect, start, receive, isOn}
-use Rattle.ctaphid.specs.Transport.{Transport, Event, Answer, nothing, Next, next, broadcast, isAllocated, isLockedAgainst, withReceiver, settle, settled, step}
-use Rattle.ctaphid.specs.Demands.{standard, latest, after, on, Sent, Hushed, Ends, Message, aPing, aMsg, aWink, aCbor, numberOf, handedOut, Delivery}
+use Rattle.ctaphid.specs.Transport.{Settings, Transport, Event, Answer, nothing, Next, next, broadcast, isAllocated, isLockedAgainst, withReceiver, settle, settled, step}
+use Rattle.ctaphid.specs.Demands.{standard, latest, after, on, Sent, Hushed, Ends, Message, aPing, aMsg, aWink, aCbor, aVendor, numberOf, handedOut, Delivery}
 use Rattle.ctaphid.proofs.Splitting.{padded-full}
 use Rattle.ctaphid.proofs.Packets.{read-written}
+use Rattle.ctaphid.proofs.Commands.{vendor-range}
 use Rattle.ctaphid.proofs.Invariant.{Holds}
-use Rattle.ctaphid.proofs.Steps.{grown, receive-more, receive-last, receive-free, allocated-most, allocated-valid, unlocked-for, still-unlocked, let-through, served, dispatched, Same, other-same}
+use Rattle.ctaphid.proofs.Steps.{grown, receive-more, receive-last, receive-free, allocated-most, allocated-valid, unlocked-for, still-unlocked, let-through, served, Handed, handed, dispatched, Same, other-same}
 use Rattle.ctaphid.proofs.Histories.{on-read, settings-after, holds-after}
 
 -- ---- data fields
@@ -113,6 +114,7 @@ record Midway (d : Transport) (t : Transaction) (m : Message) (payload left : Li
   allocated : isAllocated (d .allocated) (t .channel) ≡ true
   unlocked : isLockedAgainst (d .lock) (t .channel) now ≡ false
   command : t .command ≡ numberOf m
+  handed : Handed (d .settings) m
   entire : t .collected ++ left ≡ payload
   declared : t .declared ≡ length payload
   count : length (t .collected) ≡ 57 + 59 * t .due
@@ -158,7 +160,7 @@ module _ (d : Transport) (t : Transaction) (m : Message) (payload left : List �
         (λ i. turn idle (whole (t .channel) (k .command i) (entire i))) in
         ap (λ (n : Next Transport). n .answer)
         (own-step _ (receive-last (d .settings .maximum) (e .time) t live (filled 59 left) enough ∙ told)
-        ∙ dispatched (withReceiver d idle) (e .time) (t .channel) m payload)
+        ∙ dispatched (withReceiver d idle) (e .time) (t .channel) m payload (k .handed))
 
     -- a packet that is not the last
     not-last : 59 < length left → (f : Event) (rest : List Event) → Goal (withReceiver d (busy (grown t (e .time) (filled 59 left)))) (grown t (e .time) (filled 59 left)) m payload (f ∷ rest) → Goal d t m payload (e ∷ (f ∷ rest))
@@ -177,6 +179,7 @@ module _ (d : Transport) (t : Transaction) (m : Message) (payload left : List �
           allocated = k .allocated;
           unlocked = still-unlocked (d .lock) (t .channel) now (e .time) onward (k .unlocked);
           command = k .command;
+          handed = k .handed;
           entire = simp (filled-full 59 left (omega arith), append-assoc, take-append-drop) (k .entire);
           declared = k .declared;
           count = simp (length-append, filled-length 59 left) (omega (arith, k .count));
@@ -200,6 +203,7 @@ module _ (d : Transport) (t : Transaction) (m : Message) (payload left : List �
         allocated = k .allocated;
         unlocked = still-unlocked (d .lock) (t .channel) now (e .time) onward (k .unlocked);
         command = k .command;
+        handed = k .handed;
         entire = k .entire;
         declared = k .declared;
         count = k .count;
@@ -248,18 +252,19 @@ abbrev begun : (time channel : ℕ) → Message → List ℕ → Transaction
 begun time c m payload =
     record { channel = c; command = numberOf m; declared = length payload; collected = filled 57 payload; due = 0; deadline = time + timeout }
 
-number-small : (m : Message) → numberOf m < 0x80
-number-small aPing = omega arith
-number-small aMsg = omega arith
-number-small aWink = omega arith
-number-small aCbor = omega arith
+number-small : (set : Settings) (m : Message) → Handed set m → numberOf m < 0x80
+number-small set aPing ok = omega arith
+number-small set aMsg ok = omega arith
+number-small set aWink ok = omega arith
+number-small set aCbor ok = omega arith
+number-small set (aVendor n) ok = omega (arith, vendor-range n (ok .1) .1)
 
 abbrev opening : ℕ → Message → List ℕ → Packet
 opening c m payload = initialization c (numberOf m) (length payload) (filled 57 payload)
 
-module _ (d : Transport) (c : ℕ) (m : Message) (payload : List ℕ) (small : c < broadcast) (fits : length payload ≤ d .settings .maximum) (large : d .settings .maximum ≤ 7609) (e : Event) (enabled : e .disabled ≡ false) (opened : e .packet ≡ written (opening c m payload)) (allocated : isAllocated (d .allocated) c ≡ true) (quiet : (o : ℕ) → isOn (d .receiver) o (e .time) ≡ false) (unlocked : isLockedAgainst (d .lock) c (e .time) ≡ false) where
+module _ (d : Transport) (c : ℕ) (m : Message) (ok : Handed (d .settings) m) (payload : List ℕ) (small : c < broadcast) (fits : length payload ≤ d .settings .maximum) (large : d .settings .maximum ≤ 7609) (e : Event) (enabled : e .disabled ≡ false) (opened : e .packet ≡ written (opening c m payload)) (allocated : isAllocated (d .allocated) c ≡ true) (quiet : (o : ℕ) → isOn (d .receiver) o (e .time) ≡ false) (unlocked : isLockedAgainst (d .lock) c (e .time) ≡ false) where
   reads-first : read (e .packet) ≡ opening c m payload
-  reads-first = ap read opened ∙ read-written (opening c m payload) (omega arith, number-small m, omega arith, filled-length 57 payload)
+  reads-first = ap read opened ∙ read-written (opening c m payload) (omega arith, number-small (d .settings) m ok, omega arith, filled-length 57 payload)
 
   starts : (x : Turn) → start (d .settings .maximum) (e .time) c (numberOf m) (length payload) (filled 57 payload) ≡ x → step d e ≡ settled d (e .time) c x
   starts x q =
@@ -273,7 +278,7 @@ module _ (d : Transport) (c : ℕ) (m : Message) (payload : List ℕ) (small : c
       let q : length payload ≤ length (filled 57 payload) = simp (filled-length 57 payload) h in
       ap (λ (n : Next Transport). n .answer)
       (starts (turn idle (whole c (numberOf m) payload)) (simp (le-ltb _ _ fits, le-ltb _ _ q, cut-back 57 [] payload h))
-      ∙ dispatched (withReceiver d idle) (e .time) c m payload)
+      ∙ dispatched (withReceiver d idle) (e .time) c m payload ok)
 
   long : 57 < length payload → step d e ≡ next (withReceiver d (busy (begun (e .time) c m payload))) nothing
   unfolding start collect pick settle
@@ -289,6 +294,7 @@ module _ (d : Transport) (c : ℕ) (m : Message) (payload : List ℕ) (small : c
         allocated = allocated;
         unlocked = unlocked;
         command = refl;
+        handed = ok;
         entire = simp (filled-full 57 payload (omega arith), take-append-drop);
         declared = refl;
         count = simp (filled-length 57 payload) (omega arith);
@@ -321,14 +327,14 @@ rest-of [] = []
 rest-of (p ∷ ps) = ps
 
 pub delivery : Delivery standard
-delivery set large past taken c m payload fits e rest is-open sending =
+delivery set permitted past taken c m allowed payload fits e rest is-open sending =
     let d : Transport = after standard set past in
     let same : d .settings ≡ set = settings-after set past in
     let holds : Holds d (latest past) = holds-after set past taken in
     let most : c ≤ d .allocated = allocated-most (d .allocated) c (is-open .allocated) in
     let cut : written (opening c m payload) ∷ coming c 0 (length payload) (drop 57 payload) ≡ e .packet ∷ sending .following =
     sym (wire-is c (numberOf m) payload) ∙ sending .cut in
-    delivered d c m payload (omega (arith, holds .count)) (simp same fits) (simp same large) e (sending .enabled)
+    delivered d c m (simp same (handed set permitted m allowed)) payload (omega (arith, holds .count)) (simp same fits) (simp same (permitted .most)) e (sending .enabled)
     (sym (ap (λ (ps : List (List ℕ)). getD ps 0 []) cut)) (is-open .allocated) (is-open .quiet)
     (unlocked-for (d .lock) c (e .time) (is-open .unlocked)) rest
     (subst (λ (ps : List (List ℕ)). Sent c (e .time + timeout) (e .time) ps rest) (sym (ap rest-of cut)) (sending .followed))

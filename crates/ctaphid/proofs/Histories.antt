@@ -2,14 +2,16 @@
 use Prim.Native.Nat.{ℕ, _-_, _≤_}
 use native.Mathlib.Omega.{arith}
 use native.Mathlib.Decide.{decLe}
-use mathlib.Core.Path.{_≡_, refl, sym, subst, _∙_}
+use mathlib.Core.Path.{_≡_, refl, sym, ap, subst, _∙_}
+use mathlib.Core.Bool.{true≢false}
 use mathlib.Core.List.{List, [], _∷_}
 use lib.ListN.{getD, drop}
 use lib.Seq.{getD-drop}
+use Rattle.ctaphid.specs.Choice.{isIn}
 use Rattle.ctaphid.specs.Packets.{Packet, initialization, continuation, byte, channelIn, declaredIn, read}
 use Rattle.ctaphid.specs.Receiver.{channelOf}
 use Rattle.ctaphid.specs.Transport.{Settings, Event}
-use Rattle.ctaphid.specs.Demands.{standard, Taken, latest, after, on, First, AsksLock}
+use Rattle.ctaphid.specs.Demands.{standard, Permitted, Taken, latest, after, on, First, AsksLock}
 use Rattle.ctaphid.proofs.Tests.{pick-both}
 use Rattle.ctaphid.proofs.Packets.{read-first, read-later, read-formed}
 use Rattle.ctaphid.proofs.Invariant.{Holds, holds-fresh, holds-later, holds-hear, same-settings}
@@ -27,6 +29,12 @@ holds-after set (e ∷ past) taken =
     holds-hear (after standard set past) (e .time) (e .disabled) (read (e .packet))
     (holds-later (after standard set past) (latest past) (e .time) (taken .1) (holds-after set past (taken .2)))
     (read-formed (e .packet) (taken .0 .size) (taken .0 .bytes))
+
+-- ---- settings with an empty list
+
+pub none-permitted : (set : Settings) → set .maximum ≤ 7609 → set .vendor ≡ [] → Permitted set
+unfolding isIn
+none-permitted set most none = record { most = most; vendor = λ n e. absurd (true≢false (sym e ∙ ap (isIn n) none)) }
 
 -- ---- bytes
 

@@ -11,9 +11,9 @@ use lib.ListN.{length, take, getD, length-append}
 use lib.Seq.{length-take-le}
 use Rattle.ctaphid.specs.Choice.{pick}
 use Rattle.ctaphid.specs.Packets.{Packet, initialization, continuation, Formed}
-use Rattle.ctaphid.specs.Commands.{Command, MSG, CBOR, INIT, PING, CANCEL, ERROR, KEEPALIVE, WINK, LOCK, number, among, commandOf, commands}
+use Rattle.ctaphid.specs.Commands.{Command, MSG, CBOR, INIT, PING, CANCEL, ERROR, KEEPALIVE, WINK, LOCK, number, among, commandOf, commands, isVendor, VENDOR}
 use Rattle.ctaphid.specs.Receiver.{Transaction, Receiver, idle, busy, Reception, silent, fault, whole, Turn, channelOf, collect, start, whenIdle, whenOver, onOwn, whenBusy, receive}
-use Rattle.ctaphid.specs.Transport.{Settings, Lock, Transport, fresh, Next, broadcast, isAllocated, isValid, isLockedAgainst, isShut, nextChannel, onInit, lockFor, onLock, dispatch, settle, serve, hear, withReceiver, withAllocated, withLock}
+use Rattle.ctaphid.specs.Transport.{Settings, Lock, Transport, fresh, Next, broadcast, isAllocated, isValid, isLockedAgainst, isShut, nextChannel, onInit, lockFor, onLock, dispatch, settle, serve, hear, withReceiver, withAllocated, withLock, knows, obey}
 use Rattle.ctaphid.proofs.Tests.{pick-true, pick-both, pick-known}
 
 -- a channel that is allocated, or the broadcast channel for INIT
@@ -187,11 +187,14 @@ module _ (max time : ℕ) where
 -- ---- what a whole message alters: by INIT the count of channels, by LOCK the lock
 
 -- what reads as LOCK is LOCK's number
-pub among-lock : (cs : List Command) (n : ℕ) → among cs n ≡ LOCK → n ≡ 4
+among-lock : (cs : List Command) (n : ℕ) → among cs n ≡ LOCK → n ≡ 4
 unfolding among
 among-lock [] n = λ e. let z : _≡_ {A = ℕ} 63 4 = ap number e in absurd (omega arith)
 among-lock (c ∷ rest) n =
     pick-known (λ (x : Command). x ≡ LOCK → n ≡ 4) (eqb n (number c)) _ _ (λ e h. eqb-true n (number c) e ∙ ap number h) (λ e. among-lock rest n)
+
+pub reads-lock : (n : ℕ) → commandOf n ≡ LOCK → n ≡ 4
+reads-lock n = pick-known (λ (x : Command). x ≡ LOCK → n ≡ 4) (isVendor n) _ _ (λ v e. ap number e) (λ v. among-lock commands n)
 
 -- what holds of a transport is kept, where those two keep it
 module _ (P : Transport → Type 0) (d : Transport) (time c : ℕ) (payload : List ℕ) (same : P d) where
@@ -209,17 +212,22 @@ module _ (P : Transport → Type 0) (d : Transport) (time c : ℕ) (payload : Li
       (pick-known (λ (x : Next Transport). P (x .state)) (ltb 10 (getD payload 0 0)) _ _ (λ e. same) (λ e. new (ltb-false 10 (getD payload 0 0) e)))
       same
 
+  keeps-obey : (x : Command) → (c ≡ broadcast → P (withAllocated d (nextChannel (d .allocated)))) → (x ≡ LOCK → getD payload 0 0 ≤ 10 → P (withLock d (lockFor time c (getD payload 0 0)))) → P (obey d time c x payload .state)
+  unfolding obey
+  keeps-obey MSG init lock = same
+  keeps-obey CBOR init lock = same
+  keeps-obey INIT init lock = keeps-init init
+  keeps-obey PING init lock = same
+  keeps-obey CANCEL init lock = same
+  keeps-obey ERROR init lock = same
+  keeps-obey KEEPALIVE init lock = same
+  keeps-obey WINK init lock = same
+  keeps-obey LOCK init lock = keeps-lock (lock refl)
+  keeps-obey (VENDOR n) init lock = same
+
   pub keeps-dispatch : (x : Command) → (c ≡ broadcast → P (withAllocated d (nextChannel (d .allocated)))) → (x ≡ LOCK → getD payload 0 0 ≤ 10 → P (withLock d (lockFor time c (getD payload 0 0)))) → P (dispatch d time c x payload .state)
   unfolding dispatch
-  keeps-dispatch MSG init lock = same
-  keeps-dispatch CBOR init lock = same
-  keeps-dispatch INIT init lock = keeps-init init
-  keeps-dispatch PING init lock = same
-  keeps-dispatch CANCEL init lock = same
-  keeps-dispatch ERROR init lock = same
-  keeps-dispatch KEEPALIVE init lock = same
-  keeps-dispatch WINK init lock = same
-  keeps-dispatch LOCK init lock = keeps-lock (lock refl)
+  keeps-dispatch x init lock = pick-both (λ (n : Next Transport). P (n .state)) (knows (d .settings) x) _ _ (keeps-obey x init lock) same
 
 keeps-hear : (P : Transport → Type 0) (d : Transport) (time : ℕ) (disabled : Bool) (p : Packet) → P d → (isValid (d .allocated) p ≡ true → isShut (d .lock) time disabled (channelOf p) ≡ false → P (serve d time p .state)) → P (hear d time disabled p .state)
 unfolding hear
@@ -287,7 +295,7 @@ holds-settle d time c (fault e) k r t o = k
 holds-settle d time c (whole own cmd payload) k r t o =
     keeps-dispatch (λ (x : Transport). Holds x time) d time own payload k (commandOf cmd)
     (holds-init d time own k (t .0) (subst (λ (x : ℕ). isLockedAgainst (d .lock) x time ≡ false) (sym o) r))
-    (λ e. holds-lock d time own k (getD payload 0 0) (⊎-elim (λ a. a) (λ a. absurd (omega (arith, among-lock commands cmd e, a .1))) (t .2)))
+    (λ e. holds-lock d time own k (getD payload 0 0) (⊎-elim (λ a. a) (λ a. absurd (omega (arith, reads-lock cmd e, a .1))) (t .2)))
 
 pub holds-hear : (d : Transport) (time : ℕ) (disabled : Bool) (p : Packet) → Holds d time → Formed p → Holds (hear d time disabled p .state) time
 holds-hear d time disabled p k f =

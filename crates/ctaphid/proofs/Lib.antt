@@ -10,6 +10,7 @@ pub mod Forgetting
 pub mod Invariant
 pub mod Steps
 pub mod Deliver
+pub mod Listing
 pub mod Carried
 pub mod Instances
 pub mod WrongDelivery

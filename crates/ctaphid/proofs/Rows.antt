@@ -5,18 +5,18 @@ use mathlib.Core.Path.{refl, ap, _∙_}
 use mathlib.Core.List.{List, [], _∷_}
 use borrow.Author.Tests.{lt-ltb, le-ltb}
 use lib.ListN.{length}
-use Rattle.ctaphid.specs.Choice.{pick}
+use Rattle.ctaphid.specs.Choice.{pick, isIn}
 use Rattle.ctaphid.specs.Packets.{byte, channelIn, declaredIn, read, written, Bytes}
 use Rattle.ctaphid.specs.Messages.{later, chunks, padded, fields, continuations, packets, splitWire}
-use Rattle.ctaphid.specs.Commands.{among}
+use Rattle.ctaphid.specs.Commands.{among, isVendor}
 use Rattle.ctaphid.specs.Receiver.{collect, start, whenIdle, whenOver, onOwn, whenBusy, receive, isOn}
-use Rattle.ctaphid.specs.Transport.{isAllocated, isValid, isLockedBy, isLockedAgainst, isShut, nextChannel, onInit, lockFor, onLock, dispatch, settle, hear}
+use Rattle.ctaphid.specs.Transport.{isAllocated, isValid, isLockedBy, isLockedAgainst, isShut, nextChannel, onInit, lockFor, onLock, dispatch, settle, hear, knows, obey}
 use Rattle.ctaphid.specs.Device.{onWink, onMsg, onRequest, answered}
 use Rattle.ctaphid.specs.Rows.{Rows, FurtherRows}
 use Rattle.ctaphid.proofs.Messages.{wire-length, wire-later}
 
 pub rows : Rows
-unfolding hear isShut isLockedAgainst isLockedBy isAllocated isValid nextChannel onInit lockFor onLock dispatch settle receive whenBusy onOwn whenOver whenIdle start collect isOn read channelIn declaredIn among onWink onMsg onRequest answered pick written
+unfolding hear isShut isLockedAgainst isLockedBy isAllocated isValid nextChannel onInit lockFor onLock dispatch knows obey isVendor isIn settle receive whenBusy onOwn whenOver whenIdle start collect isOn read channelIn declaredIn among onWink onMsg onRequest answered pick written
 rows = record {
   a = refl;
   b = refl;
@@ -38,10 +38,12 @@ up-to-255 zero = omega arith
 up-to-255 (suc i) = omega arith
 
 pub further-rows : FurtherRows
-unfolding hear isShut isLockedAgainst isLockedBy isAllocated isValid nextChannel onInit lockFor onLock dispatch settle receive whenBusy onOwn whenOver whenIdle start collect isOn read channelIn declaredIn among onWink onMsg onRequest answered pick packets fields chunks later padded continuations written splitWire
+unfolding hear isShut isLockedAgainst isLockedBy isAllocated isValid nextChannel onInit lockFor onLock dispatch knows obey isVendor isIn settle receive whenBusy onOwn whenOver whenIdle start collect isOn read channelIn declaredIn among onWink onMsg onRequest answered pick packets fields chunks later padded continuations written splitWire
 further-rows = record {
   commands = refl;
   read-commands = refl;
+  vendor-numbers = refl;
+  in-list = refl;
   same-commands = (refl, refl);
   errors = refl;
   capability-bits = refl;
@@ -116,6 +118,11 @@ further-rows = record {
   no-first = refl;
   blocks = refl;
   no-requests = refl;
+  vendor-out = refl;
+  vendor-60 = refl;
+  vendor-late = refl;
+  vendor-none = refl;
+  vendor-nowhere = refl;
   msg-in = refl;
   msg-out = refl;
   init-out = refl;
@@ -125,6 +132,7 @@ further-rows = record {
   wink-1 = refl;
   wink-not-yet = refl;
   wink-ended = refl;
+  wink-ended-vendor = refl;
   wink-ended-out = refl;
   wink-stays = refl;
   parts = λ d n l r. (refl, refl, refl, refl, refl, refl, refl, refl, refl, refl, refl, refl);

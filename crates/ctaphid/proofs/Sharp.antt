@@ -12,12 +12,12 @@ use lib.ListN.{length, take, replicate, length-replicate, replicate-append-repli
 use lib.Seq.{take-all}
 use Rattle.ctaphid.specs.Choice.{pick}
 use Rattle.ctaphid.specs.Packets.{Packet, continuation, channelIn, declaredIn, read}
-use Rattle.ctaphid.specs.Commands.{PING, among}
+use Rattle.ctaphid.specs.Commands.{PING, among, isVendor}
 use Rattle.ctaphid.specs.Receiver.{Transaction, idle, busy, silent, whole, Turn, turn, collect, start, whenIdle, receive, isOn}
-use Rattle.ctaphid.specs.Transport.{Transport, free, Event, nothing, reply, Next, isAllocated, isValid, isLockedAgainst, isShut, nextChannel, onInit, dispatch, settle, serve, hear, step}
+use Rattle.ctaphid.specs.Transport.{Transport, free, Event, nothing, reply, Next, isAllocated, isValid, isLockedAgainst, isShut, nextChannel, onInit, dispatch, settle, serve, hear, step, knows, obey}
 use Rattle.ctaphid.specs.Demands.{standard, Taken, latest, after, answer, Begun, Since, TransactionsEndWithin}
 use Rattle.ctaphid.proofs.Steps.{grown, receive-more, receive-last, let-through, served}
-use Rattle.ctaphid.proofs.InstancesBounds.{at, allBytes, proper, channel, settings, two, two-taken}
+use Rattle.ctaphid.proofs.InstancesBounds.{at, allBytes, proper, channel, settings, permitted, two, two-taken}
 
 -- the continuation numbered n, its data all 0, comes 99 ms after the packet before it
 abbrev time : ℕ → ℕ
@@ -93,7 +93,7 @@ module _ (n : ℕ) (h : n ≤ 127) where
 
 -- two channels are allocated, and its first packet begins it
 begins : after standard settings (longest 0) ≡ midway 0
-unfolding read channelIn declaredIn hear isShut settle dispatch among onInit nextChannel isAllocated isValid isLockedAgainst receive whenIdle start collect pick
+unfolding read channelIn declaredIn hear isShut settle dispatch knows obey isVendor among onInit nextChannel isAllocated isValid isLockedAgainst receive whenIdle start collect pick
 begins = refl
 
 longest-after : (n : ℕ) → n ≤ 127 → after standard settings (longest n) ≡ midway n
@@ -113,7 +113,7 @@ longest-off = on-at 12678
 
 -- by its last one, 99 ms later, it is whole
 pub longest-whole : answer standard settings (longest 127) (numbered 127) ≡ reply 1 PING (replicate 7609 0)
-unfolding settle dispatch among pick
+unfolding settle dispatch knows obey isVendor among pick
 longest-whole =
     let all : take 7609 (bytes 127 ++ replicate 59 0) ≡ replicate 7609 0 = ap (take 7609) (bytes-more 127) ∙ take-all 7609 (replicate 7609 0) (omega (arith, length-replicate {A = ℕ} 7609 0)) in
     let t : Turn = turn idle (whole 1 1 (take 7609 (bytes 127 ++ replicate 59 0))) in
@@ -124,7 +124,7 @@ longest-whole =
 
 -- its first packet is answered by nothing
 begins-silent : answer standard settings two (at 5 (channel 1 ++ (0x81 ∷ 0x1d ∷ 0xb9 ∷ []))) ≡ nothing
-unfolding read channelIn declaredIn hear isShut settle dispatch among onInit nextChannel isAllocated isValid isLockedAgainst receive whenIdle start collect pick
+unfolding read channelIn declaredIn hear isShut settle dispatch knows obey isVendor among onInit nextChannel isAllocated isValid isLockedAgainst receive whenIdle start collect pick
 begins-silent = refl
 
 -- and so it began at 5, and at no other time
@@ -141,5 +141,5 @@ longest-start (suc n) t h (inr b) = longest-start n t (omega arith) (b .1)
 -- so no smaller bound holds
 pub sharp : (bound : ℕ) → bound ≤ 12672 → TransactionsEndWithin bound standard → ⊥
 sharp bound small ends =
-    let s : Since bound standard settings 1 (longest 127) 12677 = ends settings (omega arith) (longest 127) (longest-taken 127 (omega arith)) 12677 (omega (arith, longest-latest 127)) 1 longest-on in
+    let s : Since bound standard settings 1 (longest 127) 12677 = ends settings permitted (longest 127) (longest-taken 127 (omega arith)) 12677 (omega (arith, longest-latest 127)) 1 longest-on in
     omega (arith, s .within, longest-start 127 (s .start) (omega arith) (s .begun))

@@ -10,10 +10,10 @@ use lib.Dec.{leb, eqb}
 use lib.ListN.{take, getD}
 use Rattle.ctaphid.specs.Choice.{pick}
 use Rattle.ctaphid.specs.Packets.{Packet, initialization, continuation, read}
-use Rattle.ctaphid.specs.Commands.{Command, MSG, CBOR, INIT, PING, CANCEL, ERROR, KEEPALIVE, WINK, LOCK, commandOf}
+use Rattle.ctaphid.specs.Commands.{Command, MSG, CBOR, INIT, PING, CANCEL, ERROR, KEEPALIVE, WINK, LOCK, commandOf, VENDOR}
 use Rattle.ctaphid.specs.Errors.{Error, InvalidCmd, InvalidPar, InvalidLen, InvalidSeq, MsgTimeout, InvalidChannel, code}
 use Rattle.ctaphid.specs.Receiver.{Transaction, Receiver, idle, busy, Turn, channelOf, collect, start, whenIdle, whenOver, onOwn, whenBusy, receive, isOn}
-use Rattle.ctaphid.specs.Transport.{Lock, Transport, Answer, nothing, reply, request, Next, error, notValid, isLocked, isLockedBy, isLockedAgainst, isShut, onInit, onLock, dispatch, settle, settled, hear, withReceiver}
+use Rattle.ctaphid.specs.Transport.{Lock, Transport, Answer, nothing, reply, request, Next, error, notValid, isLocked, isLockedBy, isLockedAgainst, isShut, onInit, onLock, dispatch, settle, settled, hear, withReceiver, knows, obey}
 use Rattle.ctaphid.specs.Demands.{AnyDevice, standard, after, on, TransactionsEnd, LocksEnd, busyOn, Against, Honest, NoneShutOut}
 use Rattle.ctaphid.proofs.Tests.{pick-true, pick-both, pick-known}
 use Rattle.ctaphid.proofs.Histories.{on-read}
@@ -41,23 +41,28 @@ Fine x = NotBusy (x .answer)
 fine : (b : Bool) (x y : Next Transport) → Fine x → Fine y → Fine (pick b x y)
 fine b x y p q = pick-both (λ (n : Next Transport). Fine n) b x y p q
 
-dispatch-fine : (d : Transport) (time c : ℕ) (x : Command) (payload : List ℕ) → Fine (dispatch d time c x payload)
-unfolding dispatch onInit onLock
-dispatch-fine d time c MSG payload = other-command (request c MSG payload) (λ z. omega arith)
-dispatch-fine d time c CBOR payload = other-command (request c CBOR payload) (λ z. omega arith)
-dispatch-fine d time c INIT payload =
+obey-fine : (d : Transport) (time c : ℕ) (x : Command) (payload : List ℕ) → Fine (obey d time c x payload)
+unfolding obey onInit onLock
+obey-fine d time c MSG payload = other-command (request c MSG payload) (λ z. omega arith)
+obey-fine d time c CBOR payload = other-command (request c CBOR payload) (λ z. omega arith)
+obey-fine d time c INIT payload =
     fine _ _ _
     (fine _ _ _ (other-command (reply c INIT _) (λ z. omega arith)) (other-command (reply c INIT _) (λ z. omega arith)))
     (other-code c InvalidLen (λ z. omega arith))
-dispatch-fine d time c PING payload = other-command (reply c PING payload) (λ z. omega arith)
-dispatch-fine d time c CANCEL payload = other-command nothing (λ z. omega arith)
-dispatch-fine d time c ERROR payload = other-code c InvalidCmd (λ z. omega arith)
-dispatch-fine d time c KEEPALIVE payload = other-code c InvalidCmd (λ z. omega arith)
-dispatch-fine d time c WINK payload = other-command (request c WINK payload) (λ z. omega arith)
-dispatch-fine d time c LOCK payload =
+obey-fine d time c PING payload = other-command (reply c PING payload) (λ z. omega arith)
+obey-fine d time c CANCEL payload = other-command nothing (λ z. omega arith)
+obey-fine d time c ERROR payload = other-command nothing (λ z. omega arith)
+obey-fine d time c KEEPALIVE payload = other-command nothing (λ z. omega arith)
+obey-fine d time c WINK payload = other-command (request c WINK payload) (λ z. omega arith)
+obey-fine d time c LOCK payload =
     fine _ _ _
     (fine _ _ _ (other-code c InvalidPar (λ z. omega arith)) (other-command (reply c LOCK []) (λ z. omega arith)))
     (other-code c InvalidLen (λ z. omega arith))
+obey-fine d time c (VENDOR n) payload = λ o q. let z : _≡_ {A = ℕ} 0 1 = cc in absurd (omega arith)
+
+dispatch-fine : (d : Transport) (time c : ℕ) (x : Command) (payload : List ℕ) → Fine (dispatch d time c x payload)
+unfolding dispatch
+dispatch-fine d time c x payload = fine _ _ _ (obey-fine d time c x payload) (other-code c InvalidCmd (λ z. omega arith))
 
 module _ (d : Transport) (time c max : ℕ) where
   abbrev Calm : Turn → Type 0

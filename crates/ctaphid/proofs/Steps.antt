@@ -7,14 +7,15 @@ use mathlib.Core.Bool.{Bool, true, false, not, true≢false}
 use borrow.Author.Tests.{lt-ltb, le-ltb, le-leb, lt-leb, eq-eqb, ne-eqb, eqb-false, ltb-true, ltb-false, leb-true}
 use lib.Dec.{leb, eqb}
 use lib.ListN.{length, take}
-use Rattle.ctaphid.specs.Choice.{pick}
+use Rattle.ctaphid.specs.Choice.{pick, isIn}
 use Rattle.ctaphid.specs.Packets.{Packet, initialization, continuation}
-use Rattle.ctaphid.specs.Commands.{number, among, commandOf}
+use Rattle.ctaphid.specs.Commands.{number, among, commandOf, isVendor, VENDOR}
 use Rattle.ctaphid.specs.Errors.{Error, ChannelBusy, InvalidChannel}
 use Rattle.ctaphid.specs.Limits.{timeout}
 use Rattle.ctaphid.specs.Receiver.{Transaction, Receiver, idle, busy, silent, fault, whole, Turn, turn, channelOf, collect, start, whenIdle, whenOver, onOwn, whenBusy, receive, isOn}
-use Rattle.ctaphid.specs.Transport.{Lock, Transport, Next, next, error, broadcast, isAllocated, isValid, notValid, isLocked, isLockedBy, isLockedAgainst, isShut, withReceiver, dispatch, settle, settled, serve, hear}
-use Rattle.ctaphid.specs.Demands.{Message, aPing, aMsg, aWink, aCbor, numberOf, handedOut, HandsOut}
+use Rattle.ctaphid.specs.Transport.{Lock, Transport, Next, next, error, broadcast, isAllocated, isValid, notValid, isLocked, isLockedBy, isLockedAgainst, isShut, withReceiver, dispatch, settle, settled, serve, hear, knows, obey, Settings, request}
+use Rattle.ctaphid.specs.Demands.{Message, aPing, aMsg, aWink, aCbor, numberOf, handedOut, HandsOut, Allowed, Permitted, aVendor}
+use Rattle.ctaphid.proofs.Commands.{is-vendor}
 use Rattle.ctaphid.proofs.Tests.{pick-true, pick-both, pick-known}
 use Rattle.ctaphid.proofs.Transport.{hear-served}
 
@@ -89,12 +90,32 @@ let-through d time p v u = hear-served d time false p v u
 pub served : (d : Transport) (time : ℕ) (p : Packet) (t : Turn) → receive (d .settings .maximum) time (d .receiver) p ≡ t → serve d time p ≡ settled d time (channelOf p) t
 served d time p t e = ap (λ (x : Turn). settled d time (channelOf p) x) e
 
-pub dispatched : (d : Transport) (time c : ℕ) (m : Message) (payload : List ℕ) → dispatch d time c (commandOf (numberOf m)) payload ≡ next d (handedOut m c payload)
-unfolding dispatch among pick
-dispatched d time c aPing payload = refl
-dispatched d time c aMsg payload = refl
-dispatched d time c aWink payload = refl
-dispatched d time c aCbor payload = refl
+-- a message that is handed out, and whose number is the vendor's if it is one of the vendor's
+abbrev pub Handed : Settings → Message → Type 0
+Handed set aPing = Unit {0}
+Handed set aMsg = Unit {0}
+Handed set aWink = Unit {0}
+Handed set aCbor = Unit {0}
+Handed set (aVendor n) = (isIn n (set .vendor) ≡ true) × (isVendor n ≡ true)
+
+pub handed : (set : Settings) → Permitted set → (m : Message) → Allowed set m → Handed set m
+handed set permitted aPing a = tt
+handed set permitted aMsg a = tt
+handed set permitted aWink a = tt
+handed set permitted aCbor a = tt
+handed set permitted (aVendor n) a = let range = permitted .vendor n a in (a, is-vendor n (range .0) (range .1))
+
+vendor-dispatched : (d : Transport) (time c n : ℕ) (payload : List ℕ) → Handed (d .settings) (aVendor n) → dispatch d time c (commandOf n) payload ≡ next d (request c (VENDOR n) payload)
+unfolding dispatch knows obey pick
+vendor-dispatched d time c n payload a = simp (a .1, a .0)
+
+pub dispatched : (d : Transport) (time c : ℕ) (m : Message) (payload : List ℕ) → Handed (d .settings) m → dispatch d time c (commandOf (numberOf m)) payload ≡ next d (handedOut m c payload)
+unfolding isVendor dispatch knows obey among pick
+dispatched d time c aPing payload a = refl
+dispatched d time c aMsg payload a = refl
+dispatched d time c aWink payload a = refl
+dispatched d time c aCbor payload a = refl
+dispatched d time c (aVendor n) payload a = vendor-dispatched d time c n payload a
 
 -- an error hands nothing out
 pub error-hands : (c : ℕ) (e : Error) → HandsOut (error c e) → ⊥

@@ -9,12 +9,12 @@ use borrow.Author.Tests.{le-ltb, lt-leb}
 use lib.ListN.{replicate}
 use Rattle.ctaphid.specs.Choice.{pick}
 use Rattle.ctaphid.specs.Packets.{channelIn, declaredIn, read}
-use Rattle.ctaphid.specs.Commands.{among, LOCK}
+use Rattle.ctaphid.specs.Commands.{among, LOCK, isVendor}
 use Rattle.ctaphid.specs.Receiver.{busy, collect, start, whenIdle, whenBusy, receive, isOn}
-use Rattle.ctaphid.specs.Transport.{Settings, Transport, free, Event, nothing, reply, Next, next, isAllocated, isValid, isLockedBy, isLockedAgainst, isShut, nextChannel, onInit, lockFor, onLock, dispatch, settle, hear}
+use Rattle.ctaphid.specs.Transport.{Settings, Transport, free, Event, nothing, reply, Next, next, isAllocated, isValid, isLockedBy, isLockedAgainst, isShut, nextChannel, onInit, lockFor, onLock, dispatch, settle, hear, knows, obey}
 use Rattle.ctaphid.specs.Demands.{AnyDevice, Taken, latest, after, answer, Begun, Since, TransactionsEnd, Locked, Holding, LocksEnd, busyOn, HeldBy, NoneShutOut}
 use Rattle.ctaphid.specs.WrongBounds.{foreverLocked, lockedTooLong, anyPacketIsLife}
-use Rattle.ctaphid.proofs.InstancesBounds.{at, allBytes, proper, ping, begin, lock, settings, two, begun, begun-taken, locked, locked-taken}
+use Rattle.ctaphid.proofs.InstancesBounds.{at, allBytes, proper, ping, begin, lock, settings, permitted, two, begun, begun-taken, locked, locked-taken}
 
 -- what a history tells of came no later than its latest event
 begun-start : (D : AnyDevice) (set : Settings) (c : ℕ) (past : List Event) (t : ℕ) → Taken past → Begun D set c past t → t ≤ latest past
@@ -34,22 +34,22 @@ holding-ends : (D : AnyDevice) (c : ℕ) → Holding D settings c locked 50000 �
 holding-ends D c h = omega (arith, locked-start D settings c locked (h .seconds) (h .start) locked-taken (h .locked), h .most, h .within)
 
 still-locked : foreverLocked .isLockedBy (after foreverLocked settings locked) 1 50000 ≡ true
-unfolding read channelIn declaredIn hear isShut settle dispatch among onInit onLock lockFor nextChannel isAllocated isValid isLockedBy isLockedAgainst receive whenIdle start collect pick
+unfolding read channelIn declaredIn hear isShut settle dispatch knows obey isVendor among onInit onLock lockFor nextChannel isAllocated isValid isLockedBy isLockedAgainst receive whenIdle start collect pick
 still-locked = refl
 
 pub forever-locked-caught : LocksEnd foreverLocked → ⊥
-forever-locked-caught ends = holding-ends foreverLocked 1 (ends settings (omega arith) locked locked-taken 50000 (omega arith) 1 still-locked)
+forever-locked-caught ends = holding-ends foreverLocked 1 (ends settings permitted locked locked-taken 50000 (omega arith) 1 still-locked)
 
 -- the same with no question asked
 still-busy : answer foreverLocked settings locked (at 50000 (ping 2)) ≡ busyOn 2
-unfolding read channelIn declaredIn hear isShut settle dispatch among onInit onLock lockFor nextChannel isAllocated isValid isLockedAgainst receive whenIdle start collect pick
+unfolding read channelIn declaredIn hear isShut settle dispatch knows obey isVendor among onInit onLock lockFor nextChannel isAllocated isValid isLockedAgainst receive whenIdle start collect pick
 still-busy = refl
 
 pub forever-locked-shuts-out : NoneShutOut foreverLocked → ⊥
 unfolding allBytes pick
 forever-locked-shuts-out none =
     let h : HeldBy foreverLocked settings locked 2 50000 =
-    none settings (omega arith) locked (at 50000 (ping 2)) (proper (at 50000 (ping 2)) refl refl (omega arith), omega arith, locked-taken) refl still-busy in
+    none settings permitted locked (at 50000 (ping 2)) (proper (at 50000 (ping 2)) refl refl (omega arith), omega arith, locked-taken) refl still-busy in
     ⊎-elim
     (λ s. omega (arith, begun-start foreverLocked settings (h .holder) locked (s .start) locked-taken (s .begun), s .within))
     (λ k. holding-ends foreverLocked (h .holder) k)
@@ -58,7 +58,7 @@ forever-locked-shuts-out none =
 -- ---- a lock that runs for a millisecond more
 
 lock-accepted : answer lockedTooLong settings two (at 5 (lock 1)) ≡ reply 1 LOCK []
-unfolding read channelIn declaredIn hear isShut settle dispatch among onInit onLock lockFor nextChannel isAllocated isValid isLockedAgainst receive whenIdle start collect pick
+unfolding read channelIn declaredIn hear isShut settle dispatch knows obey isVendor among onInit onLock lockFor nextChannel isAllocated isValid isLockedAgainst receive whenIdle start collect pick
 lock-accepted = refl
 
 -- the lock taken at 5 was for 1 s
@@ -67,12 +67,12 @@ locked-for k t (inl b) = omega (arith, b .0 .seconds, b .2)
 locked-for k t (inr b) = absurd (b .0 lock-accepted)
 
 locked-at-1005 : lockedTooLong .isLockedBy (after lockedTooLong settings locked) 1 1005 ≡ true
-unfolding read channelIn declaredIn hear isShut settle dispatch among onInit onLock lockFor nextChannel isAllocated isValid isLockedBy isLockedAgainst receive whenIdle start collect pick
+unfolding read channelIn declaredIn hear isShut settle dispatch knows obey isVendor among onInit onLock lockFor nextChannel isAllocated isValid isLockedBy isLockedAgainst receive whenIdle start collect pick
 locked-at-1005 = refl
 
 pub locked-too-long-caught : LocksEnd lockedTooLong → ⊥
 locked-too-long-caught ends =
-    let h : Holding lockedTooLong settings 1 locked 1005 = ends settings (omega arith) locked locked-taken 1005 (omega arith) 1 locked-at-1005 in
+    let h : Holding lockedTooLong settings 1 locked 1005 = ends settings permitted locked locked-taken 1005 (omega arith) 1 locked-at-1005 in
     omega (arith, h .within, locked-for (h .seconds) (h .start) (h .locked))
 
 -- ---- a transaction that lives by other channels' packets
@@ -111,7 +111,7 @@ unfolding read channelIn declaredIn hear isShut settle isAllocated isValid isLoc
 ping-is-life n = simp (le-ltb (5 + 99 * suc n) 0 (omega arith), lt-leb (5 + 99 * n + 100) (5 + 99 * suc n) (omega arith))
 
 pinged-after : (n : ℕ) → after anyPacketIsLife settings (pinged n) ≡ midst n
-unfolding read channelIn declaredIn hear isShut settle dispatch among onInit nextChannel isAllocated isValid isLockedAgainst receive whenIdle start collect pick
+unfolding read channelIn declaredIn hear isShut settle dispatch knows obey isVendor among onInit nextChannel isAllocated isValid isLockedAgainst receive whenIdle start collect pick
 pinged-after zero = refl
 pinged-after (suc n) =
     ap (λ (d : Transport). anyPacketIsLife .step d (at (5 + 99 * suc n) (ping 2)) .state) (pinged-after n)
@@ -123,7 +123,7 @@ pinged-answer n =
     ∙ ap (λ (x : Next Transport). x .answer) (ping-is-life n)
 
 begins-silent : answer anyPacketIsLife settings two (at 5 begin) ≡ nothing
-unfolding read channelIn declaredIn hear isShut settle dispatch among onInit nextChannel isAllocated isValid isLockedAgainst receive whenIdle start collect pick
+unfolding read channelIn declaredIn hear isShut settle dispatch knows obey isVendor among onInit nextChannel isAllocated isValid isLockedAgainst receive whenIdle start collect pick
 begins-silent = refl
 
 busy≢nothing : {c : ℕ} → busyOn c ≡ nothing → ⊥
@@ -143,7 +143,7 @@ still-on = ap (λ (d : Transport). isOn (d .receiver) 1 12875) (pinged-after 130
 pub any-packet-is-life-caught : TransactionsEnd anyPacketIsLife → ⊥
 any-packet-is-life-caught ends =
     let s : Since 12800 anyPacketIsLife settings 1 (pinged 130) 12875 =
-    ends settings (omega arith) (pinged 130) (pinged-taken 130 (omega arith)) 12875 (omega (arith, pinged-latest 130)) 1 still-on in
+    ends settings permitted (pinged 130) (pinged-taken 130 (omega arith)) 12875 (omega (arith, pinged-latest 130)) 1 still-on in
     omega (arith, s .within, pinged-begun 1 130 (s .start) (s .begun))
 
 -- no event of that run is a LOCK
@@ -159,7 +159,7 @@ pinged-unlocked c (suc n) k t (inr b) = pinged-unlocked c n k t (b .1)
 pub any-packet-is-life-shuts-out : NoneShutOut anyPacketIsLife → ⊥
 any-packet-is-life-shuts-out none =
     let h : HeldBy anyPacketIsLife settings (pinged 130) 2 12974 =
-    none settings (omega arith) (pinged 130) (at (5 + 99 * suc 130) (ping 2)) (pinged-taken 131 (omega arith)) refl (pinged-answer 130) in
+    none settings permitted (pinged 130) (at (5 + 99 * suc 130) (ping 2)) (pinged-taken 131 (omega arith)) refl (pinged-answer 130) in
     ⊎-elim
     (λ s. omega (arith, s .within, pinged-begun (h .holder) 130 (s .start) (s .begun)))
     (λ l. pinged-unlocked (h .holder) 130 (l .seconds) (l .start) (l .locked))

@@ -1,15 +1,16 @@
 -- The device over its transport: wink, and the hand-over of MSG and CBOR (§11.2.9.2.1). Check 8 of docs/RULES.md. It sends no KEEPALIVE (DIFFERENCES 25).
 -- Assumes nothing.
 use Prim.Native.Nat.{ℕ, _+_}
+use mathlib.Core.Path.{_≡_}
 use mathlib.Core.List.{List, []}
 use mathlib.Core.Bool.{Bool}
 use lib.ListN.{length}
 use lib.Dec.{ltb, eqb}
-use Rattle.ctaphid.specs.Choice.{pick}
+use Rattle.ctaphid.specs.Choice.{pick, isIn}
 use Rattle.ctaphid.specs.Commands.{Command, MSG, WINK, is}
 use Rattle.ctaphid.specs.Errors.{InvalidCmd, InvalidLen}
 use Rattle.ctaphid.specs.Limits.{winkTime}
-use Rattle.ctaphid.specs.Transport.{Settings, Transport, Event, Answer, nothing, reply, request, Next, next, error, fresh, step, answersOf}
+use Rattle.ctaphid.specs.Transport.{Settings, listing, Transport, Event, Answer, nothing, reply, request, Next, next, error, fresh, step, answersOf}
 
 -- the transport, and the time from which on no wink runs
 pub record Device : Type 0 where
@@ -58,3 +59,8 @@ isWinking o time = ltb time (o .wink)
 -- the answers of a run of steps
 abbrev pub deviceRun : Device → List Event → List Answer
 deviceRun o es = answersOf deviceStep o es
+
+-- of the list of vendor commands only what is in it counts, not its order, nor how often a number stands there
+abbrev pub OnlyMembersCount : Type 0
+OnlyMembersCount =
+    (set : Settings) (l : List ℕ) → ((n : ℕ) → isIn n l ≡ isIn n (set .vendor)) → (events : List Event) → deviceRun (setUp (listing l set)) events ≡ deviceRun (setUp set) events

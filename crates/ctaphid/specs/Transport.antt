@@ -17,6 +17,10 @@ pub record Settings : Type 0 where
   pub u2f : Bool
   pub vendor : List ℕ
 
+-- the same with another list
+abbrev pub listing : List ℕ → Settings → Settings
+listing l set = record { maximum = set .maximum; u2f = set .u2f; vendor = l }
+
 -- §11.2.6: the channel that has locked the device, and the time from which on it no longer has
 pub record Lock : Type 0 where
   pub holder : ℕ

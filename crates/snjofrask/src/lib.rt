@@ -61,12 +61,7 @@ pub extern "C" fn snjofrask_is_locked(hid: &CtapHid, time: u64) -> u8
 // ---- the device: checks 1 to 8
 
 #[no_mangle]
-pub extern "C" fn snjofrask_device_new(
-    hid: &mut MainHid,
-    max: usize,
-    u2f: u8,
-    vendor: &[u8],
-) -> u8
+pub extern "C" fn snjofrask_device_new(hid: &mut MainHid, max: usize, u2f: u8, vendor: &[u8]) -> u8
     ensures { λ r. ⌜ record { hid = now (hid .exit); refusal = r } ≡ mainMadeOf (now (hid .entry)) (mainNewOf max (isSet u2f) (now (vendor .entry))) ⌝ }
 {
     let made = flat::device_new(*hid, max, u2f, vendor);
