@@ -2,7 +2,7 @@
 use Prim.Native.Nat.{ℕ, _+_, _≤_, _<_}
 use native.Mathlib.Omega.{arith}
 use mathlib.Core.Path.{_≡_, refl, sym, ap, subst, _∙_}
-use mathlib.Core.Bool.{true, false}
+use mathlib.Core.Bool.{Bool, true, false}
 use borrow.Author.Tests.{ne-eqb, lt-leb, le-leb, leb-true}
 use lib.Dec.{eqb, leb}
 use Rattle.ctaphid.specs.Choice.{pick}
@@ -23,13 +23,14 @@ pub below-vendor : (n : ℕ) → n < 64 → isVendor n ≡ false
 unfolding isVendor pick
 below-vendor n h = simp (lt-leb 64 n h)
 
-pub above-vendor : (n : ℕ) → 127 < n → isVendor n ≡ false
+pub from-64 : (n : ℕ) → 64 ≤ n → leb n 127 ≡ isVendor n
 unfolding isVendor pick
-above-vendor n h = let low : 64 ≤ n = omega arith in simp (le-leb 64 n low, lt-leb n 127 h)
+from-64 n h = simp (le-leb 64 n h)
 
-pub vendor-read : (n : ℕ) → isVendor n ≡ true → VENDOR n ≡ commandOf n
+-- where a call has told that it is one, or not
+pub vendor-read : (n : ℕ) {b : Bool} → b ≡ isVendor n → b ≡ true → VENDOR n ≡ commandOf n
 unfolding pick
-vendor-read n h = simp h
+vendor-read n is h = simp (sym is ∙ h)
 
 -- the number that a command of the vendor's has, and 0 for any other
 abbrev vendorIn : Command → ℕ
@@ -87,11 +88,11 @@ command-of-number ERROR h = refl
 command-of-number KEEPALIVE h = refl
 command-of-number WINK h = refl
 command-of-number LOCK h = refl
-command-of-number (VENDOR n) h = sym (vendor-read n h)
+command-of-number (VENDOR n) h = sym (vendor-read n refl h)
 
 -- a number that is neither the vendor's nor any of the others' reads as ERROR
-pub unlisted : (n : ℕ) → (n ≡ 0x01 → ⊥) → (n ≡ 0x03 → ⊥) → (n ≡ 0x04 → ⊥) → (n ≡ 0x06 → ⊥) → (n ≡ 0x08 → ⊥) → (n ≡ 0x10 → ⊥) → (n ≡ 0x11 → ⊥) → (n ≡ 0x3b → ⊥) → isVendor n ≡ false → ERROR ≡ commandOf n
+pub unlisted : (n : ℕ) → (n ≡ 0x01 → ⊥) → (n ≡ 0x03 → ⊥) → (n ≡ 0x04 → ⊥) → (n ≡ 0x06 → ⊥) → (n ≡ 0x08 → ⊥) → (n ≡ 0x10 → ⊥) → (n ≡ 0x11 → ⊥) → (n ≡ 0x3b → ⊥) → {b : Bool} → b ≡ isVendor n → b ≡ false → ERROR ≡ commandOf n
 unfolding pick among
-unlisted n ping msg lock init wink cbor cancel keepalive other =
-    simp (other, ne-eqb _ _ ping, ne-eqb _ _ msg, ne-eqb _ _ lock, ne-eqb _ _ init, ne-eqb _ _ wink, ne-eqb _ _ cbor, ne-eqb _ _ cancel, ne-eqb _ _ keepalive)
+unlisted n ping msg lock init wink cbor cancel keepalive is other =
+    simp (sym is ∙ other, ne-eqb _ _ ping, ne-eqb _ _ msg, ne-eqb _ _ lock, ne-eqb _ _ init, ne-eqb _ _ wink, ne-eqb _ _ cbor, ne-eqb _ _ cancel, ne-eqb _ _ keepalive)
     (sym (pick-same (eqb n 0x3f) ERROR))

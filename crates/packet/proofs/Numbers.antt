@@ -1,10 +1,10 @@
 -- The commands of the code, one for each of the standard's. Assumes nothing.
 use mathlib.Core.Path.{_≡_, refl, sym, ap, _∙_}
 use Rattle.ctaphid.specs.Commands as standard
-use Rattle.ctaphid.proofs.Commands.{command-of-number}
+use Rattle.ctaphid.proofs.Commands.{Named, command-of-number}
 use Rattle.packet.specs.Numbers.{commandMeant, commandCase}
 use Rattle.packet.specs.declared.command.CtapHidCommand.{CtapHidCommand}
-use Rattle.packet.specs.declared.command.CtapHidCommand.the-variants.{Ping, Msg, Lock, Init, Wink, Cbor, Cancel, Keepalive, Error}
+use Rattle.packet.specs.declared.command.CtapHidCommand.the-variants.{Ping, Msg, Lock, Init, Wink, Cbor, Cancel, Keepalive, Error, Vendor}
 
 pub case-meant : (x : CtapHidCommand) → commandCase (commandMeant x) ≡ x
 case-meant Ping = refl
@@ -16,6 +16,7 @@ case-meant Cbor = refl
 case-meant Cancel = refl
 case-meant Keepalive = refl
 case-meant Error = refl
+case-meant (Vendor n) = refl
 
 pub meant-case : (k : standard.Command) → commandMeant (commandCase k) ≡ k
 meant-case standard.MSG = refl
@@ -27,11 +28,12 @@ meant-case standard.ERROR = refl
 meant-case standard.KEEPALIVE = refl
 meant-case standard.WINK = refl
 meant-case standard.LOCK = refl
+meant-case (standard.VENDOR n) = refl
 
 -- two that mean the same are the same
 pub meant-one : (x y : CtapHidCommand) → commandMeant x ≡ commandMeant y → x ≡ y
 meant-one x y e = sym (case-meant x) ∙ (ap commandCase e ∙ case-meant y)
 
 -- reading the number of a command gives the command, whatever `from_u8` and `number` answer by their contracts
-pub number-read : (x y : CtapHidCommand) → commandMeant y ≡ standard.commandOf (standard.number (commandMeant x)) → y ≡ x
-number-read x y e = meant-one y x (e ∙ command-of-number (commandMeant x))
+pub number-read : (x y : CtapHidCommand) → Named (commandMeant x) → commandMeant y ≡ standard.commandOf (standard.number (commandMeant x)) → y ≡ x
+number-read x y h e = meant-one y x (e ∙ command-of-number (commandMeant x) h)

@@ -14,6 +14,7 @@ use Rattle.packet.proofs.packet_data as part
 use Rattle.packet.proofs.be32 as be32
 use Rattle.packet.proofs.ProcessedPacket.channel as channel
 use Rattle.packet.proofs.command.CtapHidCommand.from_u8 as from-u8
+use Rattle.packet.proofs.command.CtapHidCommand.is_vendor as is-vendor
 use Rattle.packet.proofs.command.CtapHidCommand.number as number
 use Rattle.packet.proofs.error.CtapHidError.code as code
 use Rattle.packet.proofs.capability.Capability.bit as bit
@@ -40,6 +41,12 @@ channel-one = record {
 
 pub be32-one : OneOutcome be32.ended (λ M 𝓤. be32.clauses 𝓤) (λ M 𝓤. be32.spec 𝓤)
 be32-one = record {
+  stated = λ M 𝓤 H A mem run. refl;
+  one = λ 𝓤 H A mem run κs a g x y v w. from-facts 𝓤 (λ p q. (p ∙ sym q, refl));
+}
+
+pub is-vendor-one : OneOutcome is-vendor.ended (λ M 𝓤. is-vendor.clauses 𝓤) (λ M 𝓤. is-vendor.spec 𝓤)
+is-vendor-one = record {
   stated = λ M 𝓤 H A mem run. refl;
   one = λ 𝓤 H A mem run κs a g x y v w. from-facts 𝓤 (λ p q. (p ∙ sym q, refl));
 }
