@@ -21,7 +21,7 @@ allocating x r = record { allocated = x; reply = r }
 
 -- a transport with so many channels, with U2F or without. INIT looks at nothing else of it, and alters the count alone
 abbrev pub having : (allocated : ℕ) → (u2f : Bool) → Transport
-having n u2f = withAllocated (fresh (record { maximum = 0; u2f = u2f })) n
+having n u2f = withAllocated (fresh (record { maximum = 0; u2f = u2f; vendor = [] })) n
 
 abbrev pub allocatedBy : Next Transport → (short : List ℕ) → Allocating
 allocatedBy n r = allocating (record { allocated = n .state .allocated; answer = answerOf (n .answer) }) (replied (n .answer) r)

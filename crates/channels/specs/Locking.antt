@@ -21,7 +21,7 @@ locking x r = record { locked = x; reply = r }
 
 -- a transport that is locked so. LOCK alters the lock alone, and looks at nothing of the transport
 abbrev pub held : Lock → Transport
-held l = withLock (fresh (record { maximum = 0; u2f = false })) l
+held l = withLock (fresh (record { maximum = 0; u2f = false; vendor = [] })) l
 
 abbrev pub lockedBy : Next Transport → (short : List ℕ) → Locking
 lockedBy n r =

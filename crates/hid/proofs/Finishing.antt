@@ -37,8 +37,6 @@ use Rattle.hid.specs.Refusals.{refusals, refusalOf}
 use Rattle.hid.specs.Hearing.{Stepping, stepping, messageAfter, heardOf}
 use Rattle.hid.specs.Shortcut.{TellsDue, GoesOn}
 use Rattle.hid.specs.Transport.{admittedOf}
-use Rattle.hid.specs.declared.MainReady.the-variants as ready
-use Rattle.hid.specs.SetUp.{freshHid, mainNewOf}
 use Rattle.hid.specs.MainHid.{Finishing, finishing, outer, requestedOf, repliedAbove, finishedOf, Winks, Msgs, Requests, Finishes, Asks, mainStepping, laidOut, mainHeardOf, mainStepOf}
 use Rattle.hid.proofs.Refusing.{tests-passed, admits-is, step-refused}
 use Rattle.hid.proofs.Shortening.{short-heard}
@@ -274,7 +272,3 @@ module _ (o : MainHid) (time : ℕ) (disabled : Bool) (p m r : List ℕ) where
             ap (λ (t : Finishing). mainStepping (t .stepped) m1 (t .reply)) out
             ∙ (ap (λ (t : Stepping). mainStepping (outer (t .stepped .hid) (o .wink) (t .stepped .answer)) (t .message) (t .reply)) was
             ∙ refused-by (λ k. mainStepping (record { hid = o; answer = Refused k }) m r) (refusals (o .hid) (o .wink) time (length p) (length m) (length r)) _ first refl some)
-
-pub new-main : (max : ℕ) (u2f : Bool) (s : CtapHid) → max ≤ 7609 → s ≡ freshHid max u2f → ready.Hid (record { hid = s; wink = 0 }) ≡ mainNewOf max u2f
-unfolding mainNewOf pick
-new-main max u2f s h e = simp (le-ltb 7609 max h) (ap (λ (t : CtapHid). ready.Hid (record { hid = t; wink = 0 })) e)

@@ -1,3 +1,5 @@
+pub mod Bits
+pub mod SettingUp
 pub mod Sound
 pub mod Served
 pub mod Heard

@@ -3,16 +3,17 @@ use Prim.Native.Nat.{ℕ, _≤_}
 use native.Mathlib.Omega.{arith}
 use mathlib.Core.Path.{_≡_, refl, sym, ap, _∙_}
 use mathlib.Core.List.{List, [], _∷_}
-use mathlib.Core.Bool.{Bool}
+use mathlib.Core.Bool.{Bool, true, false}
 use borrow.Author.Tests.{le-ltb}
 use lib.ListN.{length, take}
 use lib.Seq.{length-take-le}
-use Rattle.ctaphid.specs.Choice.{pick}
+use Rattle.ctaphid.specs.Choice.{pick, isIn}
 use Rattle.ctaphid.specs.Receiver.{idle}
 use Rattle.ctaphid.specs.Transport as standard
-use Rattle.ctaphid.specs.Transport.{Transport, Lock, Next, next, error, withLock, withAllocated, onInit, onLock, dispatch}
-use Rattle.ctaphid.specs.Commands.{Command, MSG, CBOR, INIT, PING, CANCEL, ERROR, KEEPALIVE, WINK, LOCK, commandOf}
+use Rattle.ctaphid.specs.Transport.{Transport, Lock, Next, next, error, withLock, withAllocated, onInit, onLock, knows, obey, dispatch}
+use Rattle.ctaphid.specs.Commands.{Command, MSG, CBOR, INIT, PING, CANCEL, ERROR, KEEPALIVE, WINK, LOCK, VENDOR, commandOf}
 use Rattle.ctaphid.specs.Errors.{InvalidCmd}
+use Rattle.ctaphid.proofs.Commands.{vendor-range, reads-vendor}
 use Rattle.packet.specs.Numbers.{commandMeant, commandCase}
 use Rattle.packet.specs.declared.command.CtapHidCommand.{CtapHidCommand}
 use Rattle.packet.specs.declared.command.CtapHidCommand.the-variants as command
@@ -31,6 +32,7 @@ use Rattle.channels.proofs.Inits.{init-answered, init-any}
 use Rattle.channels.proofs.Locks.{lock-answered, lock-any}
 use Rattle.hid.specs.declared.CtapHid.{CtapHid}
 use Rattle.hid.specs.declared.Stepped.{Stepped}
+use Rattle.hid.specs.Vendor.{vendorOf}
 use Rattle.hid.specs.Meaning.{settingsOf, transportOf}
 use Rattle.hid.specs.State.{Serving, serving, servedOf, keeping}
 use Rattle.hid.specs.Commands.{Serves}
@@ -138,42 +140,69 @@ module _ (s : CtapHid) (cid n len : ℕ) (m r : List ℕ) (asks : Serves s len m
       ∙ (sym (stays s m r (asks .idle) (standard.request cid k (take len m))) ∙ ap (λ (t : Next Transport). servedOf s (s .last) t r) (sym law))))
 
   pub tells-msg : (x : Stepped) → c ≡ command.Msg → x ≡ record { hid = s; answer = Message cid command.Msg len } → serving x r ≡ servedOf s (s .last) (told (commandOf n)) r
-  unfolding dispatch
+  unfolding dispatch knows obey pick
   tells-msg x e h = handed MSG x refl (ap commandMeant e) h
 
   pub tells-cbor : (x : Stepped) → c ≡ command.Cbor → x ≡ record { hid = s; answer = Message cid command.Cbor len } → serving x r ≡ servedOf s (s .last) (told (commandOf n)) r
-  unfolding dispatch
+  unfolding dispatch knows obey pick
   tells-cbor x e h = handed CBOR x refl (ap commandMeant e) h
 
   pub tells-wink : (x : Stepped) → c ≡ command.Wink → x ≡ record { hid = s; answer = Message cid command.Wink len } → serving x r ≡ servedOf s (s .last) (told (commandOf n)) r
-  unfolding dispatch
+  unfolding dispatch knows obey pick
   tells-wink x e h = handed WINK x refl (ap commandMeant e) h
 
   pub tells-ping : (a : Answer) → c ≡ command.Ping → a ≡ echoOf cid len → serving (record { hid = s; answer = a }) r ≡ servedOf s (s .last) (told (commandOf n)) r
-  unfolding dispatch echoOf pick
+  unfolding dispatch knows obey echoOf pick
   tells-ping a e h =
       reads-as PING _ (ap commandMeant e)
       (ap (λ (t : Answer). serving (record { hid = s; answer = t }) r) (h ∙ simp (le-ltb 7609 len (asks .most)) (ap (Echo cid command.Ping) (sym size)))
       ∙ sym (stays s m r (asks .idle) (standard.reply cid PING (take len m))))
 
   pub tells-cancel : (x : Stepped) → c ≡ command.Cancel → x ≡ record { hid = s; answer = Nothing } → serving x r ≡ servedOf s (s .last) (told (commandOf n)) r
-  unfolding dispatch
+  unfolding dispatch knows obey pick
   tells-cancel x e h = reads-as CANCEL _ (ap commandMeant e) (ap (λ (t : Stepped). serving t r) h ∙ sym (stays s m r (asks .idle) standard.nothing))
 
   pub tells-error : (v : Serving) → c ≡ command.Error → v ≡ keeping s (error cid InvalidCmd) r → v ≡ servedOf s (s .last) (told (commandOf n)) r
-  unfolding dispatch
+  unfolding dispatch knows obey pick
   tells-error v e h = reads-as ERROR _ (ap commandMeant e) (h ∙ sym (stays s m r (asks .idle) (error cid InvalidCmd)))
 
   pub tells-keepalive : (v : Serving) → c ≡ command.Keepalive → v ≡ keeping s (error cid InvalidCmd) r → v ≡ servedOf s (s .last) (told (commandOf n)) r
-  unfolding dispatch
+  unfolding dispatch knows obey pick
   tells-keepalive v e h = reads-as KEEPALIVE _ (ap commandMeant e) (h ∙ sym (stays s m r (asks .idle) (error cid InvalidCmd)))
 
   pub tells-init : (v : Serving) → c ≡ command.Init → v ≡ servedOf s (s .last) (onInit (transportOf s m) cid (take len m)) r → v ≡ servedOf s (s .last) (told (commandOf n)) r
-  unfolding dispatch
+  unfolding dispatch knows obey pick
   tells-init v e h = reads-as INIT _ (ap commandMeant e) h
 
   pub tells-lock : (v : Serving) → c ≡ command.Lock → v ≡ servedOf s (s .last) (onLock (transportOf s m) (s .last) cid (take len m)) r → v ≡ servedOf s (s .last) (told (commandOf n)) r
-  unfolding dispatch
+  unfolding dispatch knows obey pick
   tells-lock v e h = reads-as LOCK _ (ap commandMeant e) h
 
-pub ruleset commands = (tells-msg, tells-cbor, tells-wink, tells-ping, tells-cancel, tells-error, tells-keepalive, tells-init, tells-lock)
+  pub tells-vendor : (k : ℕ) (v : Serving) → c ≡ command.Vendor k → v ≡ servedOf s (s .last) (dispatch (transportOf s m) (s .last) cid (VENDOR k) (take len m)) r → v ≡ servedOf s (s .last) (told (commandOf n)) r
+  tells-vendor k v e h = reads-as (VENDOR k) _ (ap commandMeant e) h
+
+-- its number is the vendor's
+module _ (n k : ℕ) (c : CtapHidCommand) (is : commandMeant c ≡ commandOf n) (e : c ≡ command.Vendor k) where
+  range : (64 ≤ k) × (k ≤ 127)
+  range = vendor-range k (reads-vendor n k (sym (ap commandMeant e) ∙ is))
+
+  pub vendor-low : 64 ≤ k
+  vendor-low = range .0
+
+  pub vendor-high : k ≤ 127
+  vendor-high = range .1
+
+-- ---- a vendor command, by whether its bit is set
+module _ (s : CtapHid) (cid k len : ℕ) (m r : List ℕ) (asks : Serves s len m r) {b : Bool} (is : b ≡ isIn k (vendorOf (s .vendor))) where
+  pub vendor-out : (x : Stepped) → b ≡ true → x ≡ record { hid = s; answer = Message cid (command.Vendor k) len } → serving x r ≡ servedOf s (s .last) (dispatch (transportOf s m) (s .last) cid (VENDOR k) (take len m)) r
+  unfolding dispatch knows obey pick
+  vendor-out x t h =
+      simp (sym is ∙ t)
+      (ap (λ (y : Stepped). serving y r) h
+      ∙ (ap (λ (y : ℕ). serving (record { hid = s; answer = Message cid (command.Vendor k) y }) r) (sym (length-take-le len m (asks .room))) ∙ sym (stays s m r (asks .idle) (standard.request cid (VENDOR k) (take len m)))))
+
+  pub vendor-off : (v : Serving) → b ≡ false → v ≡ keeping s (error cid InvalidCmd) r → v ≡ servedOf s (s .last) (dispatch (transportOf s m) (s .last) cid (VENDOR k) (take len m)) r
+  unfolding dispatch knows pick
+  vendor-off v t h = simp (sym is ∙ t) (h ∙ sym (stays s m r (asks .idle) (error cid InvalidCmd)))
+
+pub ruleset commands = (tells-msg, tells-cbor, tells-wink, tells-ping, tells-cancel, tells-error, tells-keepalive, tells-init, tells-lock, tells-vendor)

@@ -8,9 +8,9 @@ use crate::vendor::is_allowed;
 use packet::CtapHidCommand;
 use packet::CtapHidError;
 ghost use mathlib.Core.Path.{_≡_};
-ghost use mathlib.Core.Bool.{true};
+ghost use Prim.Native.Nat.{_≤_};
 ghost use lib.ListN.{take};
-ghost use Rattle.ctaphid.specs.Commands.{VENDOR, isVendor, commandOf};
+ghost use Rattle.ctaphid.specs.Commands.{VENDOR, commandOf};
 ghost use Rattle.ctaphid.specs.Transport.{onInit, onLock, dispatch};
 ghost use Rattle.hid.specs.Meaning.{transportOf};
 ghost use Rattle.hid.specs.State.{serving, servedOf};
@@ -62,7 +62,7 @@ fn vendor(
     message: &[u8],
     reply: &mut [u8],
 ) -> Stepped
-    requires { ⌜ Serves hid len (now message) (now reply) × (isVendor number ≡ true) ⌝ }
+    requires { ⌜ Serves hid len (now message) (now reply) × (64 ≤ number) × (number ≤ 127) ⌝ }
     ensures { λ r. ⌜ serving r (now (reply .exit)) ≡ servedOf hid (hid .last) (dispatch (transportOf hid (now (message .entry))) (hid .last) cid (VENDOR number) (take len (now (message .entry)))) (now (reply .entry)) ⌝ }
 {
     if is_allowed(hid.vendor, number) {

@@ -2,8 +2,8 @@
 use packet::CtapHidCommand;
 ghost use mathlib.Core.Path.{_≡_};
 ghost use mathlib.Core.Bool.{true};
+ghost use Prim.Native.Nat.{_≤_};
 ghost use Rattle.ctaphid.specs.Choice.{isIn};
-ghost use Rattle.ctaphid.specs.Commands.{isVendor};
 ghost use Rattle.hid.specs.Vendor.{vendorOf, allVendor, bitOf, bitsOf};
 
 // Whether each of the numbers is the vendor's.
@@ -36,7 +36,7 @@ pub(crate) fn bits_of(numbers: &[u8]) -> u64
 }
 
 fn bit_of(number: u8) -> u64
-    requires { ⌜ isVendor number ≡ true ⌝ }
+    requires { ⌜ (64 ≤ number) × (number ≤ 127) ⌝ }
     ensures { λ r. ⌜ r ≡ bitOf number ⌝ }
 {
     1u64 << (number - CtapHidCommand::VENDOR_FIRST)
@@ -44,7 +44,7 @@ fn bit_of(number: u8) -> u64
 
 // Whether a number of the vendor's has its bit among these.
 pub(crate) fn is_allowed(bits: u64, number: u8) -> bool
-    requires { ⌜ isVendor number ≡ true ⌝ }
+    requires { ⌜ (64 ≤ number) × (number ≤ 127) ⌝ }
     ensures { λ r. ⌜ r ≡ isIn number (vendorOf bits) ⌝ }
 {
     (bits >> (number - CtapHidCommand::VENDOR_FIRST)) & 1 == 1

@@ -1,5 +1,5 @@
 -- `preprocess_message` meets its contract. Assumes nothing.
-use Rattle.hid.proofs.Served.{commands}
+use Rattle.hid.proofs.Served.{commands, vendor-low, vendor-high}
 use borrow.Author.Needs.{needs}
 use Rattle.hid.proofs.commands.preprocess_message.Statement.{statement}
 use Rattle.hid.proofs.commands.preprocess_message.Tie as tie
@@ -61,6 +61,12 @@ enum-told-9 c = search needs
 error-message-requires-2 : tie.Need-error-message-requires-2
 error-message-requires-2 c κs = search needs
 
+enum-known-number : tie.Need-enum-known-number
+enum-known-number c = search needs
+
+vendor-requires : tie.Need-vendor-requires
+vendor-requires c κs = search (needs, vendor-low, vendor-high)
+
 returns : tie.Need-returns
 returns c = search commands
 
@@ -100,6 +106,12 @@ same-length-4 c = search needs
 returns-9 : tie.Need-returns-9
 returns-9 c = search commands
 
+same-length-5 : tie.Need-same-length-5
+same-length-5 c = search needs
+
+returns-10 : tie.Need-returns-10
+returns-10 c = search commands
+
 pub preprocess-message-spec : {M : Type 1} → statement M
 preprocess-message-spec =
     tie.close
@@ -123,6 +135,8 @@ preprocess-message-spec =
     error-message-requires
     enum-told-9
     error-message-requires-2
+    enum-known-number
+    vendor-requires
     returns
     returns-2
     same-length
@@ -135,4 +149,6 @@ preprocess-message-spec =
     same-length-3
     returns-8
     same-length-4
-    returns-9)
+    returns-9
+    same-length-5
+    returns-10)
