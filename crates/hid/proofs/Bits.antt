@@ -121,6 +121,17 @@ all-vendor-in (m ∷ rest) n all h =
     (λ e k. subst (λ (x : ℕ). (64 ≤ x) × (x ≤ 127)) (sym (eqb-true n m e)) (vendor-range m (p .0)))
     (λ e k. all-vendor-in rest n (p .1) k) h
 
+pub all-vendor-of : (l : List ℕ) → ((n : ℕ) → isIn n l ≡ true → (64 ≤ n) × (n ≤ 127)) → allVendor l ≡ true
+unfolding allVendor isIn pick
+all-vendor-of [] each = refl
+all-vendor-of (m ∷ rest) each =
+    let here = each m (simp (eq-eqb m m refl)) in
+    simp (is-vendor m (here .0) (here .1)) (all-vendor-of rest (λ n h. each n (or-else (eqb n m) h)))
+  where
+    or-else : (a : Bool) {b : Bool} → b ≡ true → pick a true b ≡ true
+    or-else true h = refl
+    or-else false h = h
+
 bits-with : (l : List ℕ) (bits n : ℕ) → allVendor l ≡ true → 64 ≤ n → hasBit (bitsWith bits l) n ≡ pick (isIn n l) true (hasBit bits n)
 unfolding bitsWith allVendor isIn pick
 bits-with [] bits n all low = refl

@@ -10,7 +10,7 @@ use lib.ListN.{length, take, replicate, length-append, length-replicate}
 use lib.Seq.{length-take-le, take-at}
 use Rattle.ctaphid.specs.Choice.{pick}
 use Rattle.ctaphid.specs.Transport.{Settings, Event}
-use Rattle.ctaphid.specs.Demands.{Taken, after}
+use Rattle.ctaphid.specs.Demands.{Permitted, Taken, after}
 use Rattle.hid.specs.declared.CtapHid.{CtapHid}
 use Rattle.hid.specs.Soundness.{Sound}
 use Rattle.runs.specs.Steps.{Buffers, buffers, Roomy}
@@ -32,7 +32,7 @@ pub record Ready (h : Held) : Type 0 where
 abbrev pub Careful : Caller → Type 0
 Careful lent = (h : Held) (e : Event) → Ready h → Lends (h .hid) (e .time) (h .left .message) (lent h e)
 
-module _ (lent : Caller) (careful : Careful lent) (set : Settings) (most : set .maximum ≤ 7609) where
+module _ (lent : Caller) (careful : Careful lent) (set : Settings) (most : Permitted set) where
   abbrev at : List Event → Held
   at past = after (code lent) set past
 

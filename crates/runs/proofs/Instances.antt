@@ -7,10 +7,11 @@ use mathlib.Core.Bool.{true}
 use lib.ListN.{getD, replicate}
 use Rattle.ctaphid.specs.Choice.{pick}
 use Rattle.ctaphid.specs.Packets.{channelIn, declaredIn, read}
-use Rattle.ctaphid.specs.Commands.{CBOR, among}
+use Rattle.ctaphid.specs.Commands.{CBOR, isVendor, among}
 use Rattle.ctaphid.specs.Receiver.{collect, start, whenIdle, whenOver, onOwn, whenBusy, receive}
-use Rattle.ctaphid.specs.Transport.{Settings, Event, Answer, request, isAllocated, isValid, isLockedAgainst, isShut, nextChannel, onInit, dispatch, settle, hear}
+use Rattle.ctaphid.specs.Transport.{Settings, Event, Answer, request, isAllocated, isValid, isLockedAgainst, isShut, nextChannel, onInit, knows, obey, dispatch, settle, hear}
 use Rattle.ctaphid.specs.Demands.{Taken, answer}
+use Rattle.ctaphid.proofs.Histories.{none-permitted}
 use Rattle.ctaphid.proofs.Instances.{allBelow, at, proper, init, message, begins, ends}
 use Rattle.collect.specs.Standing.{isStanding}
 use Rattle.receive.specs.Meaning.{receiverOf}
@@ -23,14 +24,14 @@ use Rattle.runs.specs.Share.{Caller, code, LendsWell}
 use Rattle.runs.specs.Callers.{scribbling, careless}
 
 abbrev small : Settings
-small = record { maximum = 60; u2f = true }
+small = record { maximum = 60; u2f = true; vendor = [] }
 
 -- a channel is allocated, and it sends a message that begins with 1, then one that begins with 2. The latest first
 abbrev first : List Event
-first = at 5 (begins 1) ∷ at 0 init ∷ []
+first = at 5 (begins 16 1) ∷ at 0 init ∷ []
 
 abbrev second : List Event
-second = at 7 (begins 2) ∷ at 6 ends ∷ first
+second = at 7 (begins 16 2) ∷ at 6 ends ∷ first
 
 -- what is handed out with the last packet of each
 abbrev Hands : Caller → (message again : Answer) → Type 0
@@ -38,23 +39,23 @@ Hands lent a b = (answer (code lent) small first (at 6 ends) ≡ a) × (answer (
 
 -- both messages, though all that isn't owed is overwritten before every call
 pub overwritten-between : Hands scribbling (request 1 CBOR (message 1)) (request 1 CBOR (message 2))
-unfolding read channelIn declaredIn hear isShut isLockedAgainst settle dispatch onInit nextChannel isAllocated isValid receive whenIdle whenOver whenBusy onOwn start collect among pick receiverOf isStanding receive.isSound isOnChannel isPlaced transacts isHeld isTimely isSound servedOf messageAfter heardOf admittedOf
+unfolding read channelIn declaredIn hear isShut isLockedAgainst settle dispatch knows obey isVendor onInit nextChannel isAllocated isValid receive whenIdle whenOver whenBusy onOwn start collect among pick receiverOf isStanding receive.isSound isOnChannel isPlaced transacts isHeld isTimely isSound servedOf messageAfter heardOf admittedOf
 overwritten-between = (refl, refl)
 
 -- bytes that are owed are what was lent, and no longer what was sent
 pub overwritten-inside : Hands careless (request 1 CBOR (replicate 57 0xee ++ (7 ∷ []))) (request 1 CBOR (replicate 57 0xee ++ (7 ∷ [])))
-unfolding read channelIn declaredIn hear isShut isLockedAgainst settle dispatch onInit nextChannel isAllocated isValid receive whenIdle whenOver whenBusy onOwn start collect among pick receiverOf isStanding receive.isSound isOnChannel isPlaced transacts isHeld isTimely isSound servedOf messageAfter heardOf admittedOf
+unfolding read channelIn declaredIn hear isShut isLockedAgainst settle dispatch knows obey isVendor onInit nextChannel isAllocated isValid receive whenIdle whenOver whenBusy onOwn start collect among pick receiverOf isStanding receive.isSound isOnChannel isPlaced transacts isHeld isTimely isSound servedOf messageAfter heardOf admittedOf
 overwritten-inside = (refl, refl)
 
 -- so such a caller does not lend as it must
 taken : Taken (at 6 ends ∷ first)
 unfolding allBelow pick
 taken =
-    (proper 6 ends (omega arith) refl refl, omega arith, (proper 5 (begins 1) (omega arith) refl refl, omega arith, (proper 0 init (omega arith) refl refl, omega arith, tt)))
+    (proper 6 ends (omega arith) refl refl, omega arith, (proper 5 (begins 16 1) (omega arith) refl refl, omega arith, (proper 0 init (omega arith) refl refl, omega arith, tt)))
 
 pub careless-owes : LendsWell careless → ⊥
-unfolding read channelIn declaredIn hear isShut isLockedAgainst settle dispatch onInit nextChannel isAllocated isValid receive whenIdle whenOver whenBusy onOwn start collect among pick receiverOf isStanding receive.isSound isOnChannel isPlaced transacts isHeld isTimely isSound servedOf messageAfter heardOf admittedOf
+unfolding read channelIn declaredIn hear isShut isLockedAgainst settle dispatch knows obey isVendor onInit nextChannel isAllocated isValid receive whenIdle whenOver whenBusy onOwn start collect among pick receiverOf isStanding receive.isSound isOnChannel isPlaced transacts isHeld isTimely isSound servedOf messageAfter heardOf admittedOf
 careless-owes well =
-    let same = well small (omega arith) first (at 6 ends) taken .kept (record { begun = λ z. omega (arith, z); live = omega arith }) in
+    let same = well small (none-permitted small (omega arith) refl) first (at 6 ends) taken .kept (record { begun = λ z. omega (arith, z); live = omega arith }) in
     let z : _≡_ {A = ℕ} 0xee 1 = ap (λ (l : List ℕ). getD l 0 0) same in
     omega arith

@@ -10,18 +10,20 @@ use lib.ListN.{length, take, drop, getD, length-append, length-drop}
 use lib.Seq.{length-take-le, take-at}
 use Rattle.ctaphid.specs.Choice.{pick}
 use Rattle.ctaphid.specs.Limits.{lastTime, packetSize}
-use Rattle.ctaphid.specs.Commands.{Command, MSG, CBOR, INIT, PING, CANCEL, ERROR, KEEPALIVE, WINK, LOCK, number, commandOf}
+use Rattle.ctaphid.specs.Commands.{Command, MSG, CBOR, INIT, PING, CANCEL, ERROR, KEEPALIVE, WINK, LOCK, VENDOR, number, commandOf}
 use Rattle.ctaphid.specs.Packets.{Packet, initialization, continuation, read, Formed}
 use Rattle.ctaphid.specs.Receiver.{Receiver, idle, busy, Reception, silent, fault, whole, Turn, channelOf, receive}
 use Rattle.ctaphid.specs.Transport as standard
-use Rattle.ctaphid.specs.Transport.{Settings, Transport, Event, Next, nothing, reply, request, isValid, notValid, isShut, onInit, onLock, dispatch, settle, withReceiver, serve, hear, step, fresh}
+use Rattle.ctaphid.specs.Transport.{Settings, listing, Transport, Event, Next, nothing, reply, request, isValid, notValid, isShut, onInit, onLock, knows, obey, dispatch, settle, withReceiver, serve, hear, step, fresh}
+use Rattle.ctaphid.specs.Demands.{Permitted}
 use Rattle.ctaphid.specs.Device.{Device, device, onWink, onMsg, onRequest, answered as answeredAbove, deviceStep}
 use Rattle.ctaphid.proofs.Tests.{pick-known, pick-both, both-pick}
 use Rattle.ctaphid.proofs.Refusing.{none-refuse, Passed}
 use Rattle.ctaphid.proofs.Packets.{read-formed}
 use Rattle.ctaphid.proofs.Device.{same-transport}
+use Rattle.ctaphid.proofs.Listing.{Lists}
 use Rattle.ctaphid.proofs.Invariant as invariant
-use Rattle.ctaphid.proofs.Invariant.{Holds, Tells, turns-valid, holds-later, holds-hear, same-settings}
+use Rattle.ctaphid.proofs.Invariant.{Holds, Tells, turns-valid, holds-later, holds-hear, keeps-dispatch, same-settings}
 use Rattle.packet.specs.Numbers.{commandCase}
 use Rattle.packet.proofs.Numbers.{meant-case}
 use Rattle.collect.specs.Adding.{front}
@@ -34,16 +36,20 @@ use Rattle.hid.specs.declared.CtapHid.{CtapHid}
 use Rattle.hid.specs.declared.MainHid.{MainHid}
 use Rattle.hid.specs.Meaning.{settingsOf, transportOf, deviceOf, stateOf}
 use Rattle.hid.specs.Soundness.{Placed, Sound}
-use Rattle.hid.specs.SetUp.{freshHid}
+use Rattle.hid.specs.Vendor.{vendorOf, allVendor, bitsOf}
+use Rattle.hid.specs.declared.Ready.the-variants as ready
+use Rattle.hid.specs.declared.MainReady.the-variants as mainReady
+use Rattle.hid.specs.SetUp.{setUpRefusals, newOf, mainNewOf}
 use Rattle.hid.specs.State.{servedOf}
 use Rattle.hid.specs.Hearing.{Stepping, stepping, messageAfter, heardOf}
 use Rattle.hid.specs.Refusals.{refusals}
 use Rattle.hid.specs.Transport.{admittedOf}
 use Rattle.hid.specs.MainHid.{MainStepping, mainStepping, mainHeardOf, mainStepOf}
+use Rattle.hid.proofs.Bits.{all-vendor-of, leaves-just-the-list}
 use Rattle.hid.proofs.Sound.{is-sound}
 use Rattle.hid.proofs.Heard.{holds-is}
 use Rattle.hid.proofs.Finishing.{replied-long}
-use Rattle.runs.specs.Steps.{Buffers, onEvent, mainOnEvent, Refines, MainRefines, Comes, Roomy, StepRefines, SoundStays, MainStepRefines, MainSoundStays, SetUpSound}
+use Rattle.runs.specs.Steps.{Buffers, fromSettings, mainFromSettings, onEvent, mainOnEvent, Refines, MainRefines, Comes, Roomy, StepRefines, SoundStays, MainStepRefines, MainSoundStays, SetUpTaken}
 
 -- ---- the meaning of the numbers for a receiver is that receiver, where its bytes stand in the buffer
 abbrev Stands : Receiver → List ℕ → Type 0
@@ -96,19 +102,24 @@ said-back (request c k payload) m r h = rw (meant-case k) (ap (λ (y : List ℕ)
 no-echo : {A : Type 0} → false ≡ true → A
 no-echo e = absurd (true≢false (sym e))
 
-carried-dispatch : (d : Transport) (time c : ℕ) (k : Command) (payload m : List ℕ) → take (length payload) m ≡ payload → Carried (dispatch d time c k payload .answer) m
-unfolding dispatch onInit onLock
-carried-dispatch d time c MSG payload m h = h
-carried-dispatch d time c CBOR payload m h = h
-carried-dispatch d time c INIT payload m h =
+carried-obey : (d : Transport) (time c : ℕ) (k : Command) (payload m : List ℕ) → take (length payload) m ≡ payload → Carried (obey d time c k payload .answer) m
+unfolding obey onInit onLock
+carried-obey d time c MSG payload m h = h
+carried-obey d time c CBOR payload m h = h
+carried-obey d time c INIT payload m h =
     pick-both (λ (n : Next Transport). Carried (n .answer) m) (eqb (length payload) 8) _ _ (pick-both (λ (n : Next Transport). Carried (n .answer) m) (eqb c 0xffff_ffff) _ _ no-echo no-echo) no-echo
-carried-dispatch d time c PING payload m h = λ e. h
-carried-dispatch d time c CANCEL payload m h = tt
-carried-dispatch d time c ERROR payload m h = no-echo
-carried-dispatch d time c KEEPALIVE payload m h = no-echo
-carried-dispatch d time c WINK payload m h = h
-carried-dispatch d time c LOCK payload m h =
+carried-obey d time c PING payload m h = λ e. h
+carried-obey d time c CANCEL payload m h = tt
+carried-obey d time c ERROR payload m h = tt
+carried-obey d time c KEEPALIVE payload m h = tt
+carried-obey d time c WINK payload m h = h
+carried-obey d time c LOCK payload m h =
     pick-both (λ (n : Next Transport). Carried (n .answer) m) (eqb (length payload) 1) _ _ (pick-both (λ (n : Next Transport). Carried (n .answer) m) (ltb 10 (getD payload 0 0)) _ _ no-echo no-echo) no-echo
+carried-obey d time c (VENDOR n) payload m h = h
+
+carried-dispatch : (d : Transport) (time c : ℕ) (k : Command) (payload m : List ℕ) → take (length payload) m ≡ payload → Carried (dispatch d time c k payload .answer) m
+unfolding dispatch
+carried-dispatch d time c k payload m h = pick-both (λ (n : Next Transport). Carried (n .answer) m) (knows (d .settings) k) _ _ (carried-obey d time c k payload m h) no-echo
 
 carried-settle : (d : Transport) (max n time c : ℕ) (rcv : Receiver) (b : Reception) (m : List ℕ) → Tells max n rcv b → Carried (settle (withReceiver d rcv) time c b .answer) (bufferOf rcv b m)
 unfolding settle
@@ -123,24 +134,11 @@ carried-settle d max n time c (busy t) (whole own cmd payload) m h = absurd (ome
 
 -- serving a message leaves the receiver as it is
 same-receiver : (d : Transport) (time c : ℕ) (b : Reception) → settle d time c b .state .receiver ≡ d .receiver
-unfolding settle dispatch onInit onLock
+unfolding settle
 same-receiver d time c silent = refl
 same-receiver d time c (fault e) = refl
-same-receiver d time c (whole own cmd payload) = by-command (commandOf cmd)
-  where
-    Same : Next Transport → Type 0
-    Same n = n .state .receiver ≡ d .receiver
-
-    by-command : (k : Command) → Same (dispatch d time own k payload)
-    by-command MSG = refl
-    by-command CBOR = refl
-    by-command INIT = pick-both Same (eqb (length payload) 8) _ _ (pick-both Same (eqb own 0xffff_ffff) _ _ refl refl) refl
-    by-command PING = refl
-    by-command CANCEL = refl
-    by-command ERROR = refl
-    by-command KEEPALIVE = refl
-    by-command WINK = refl
-    by-command LOCK = pick-both Same (eqb (length payload) 1) _ _ (pick-both Same (ltb 10 (getD payload 0 0)) _ _ refl refl) refl
+same-receiver d time c (whole own cmd payload) =
+    keeps-dispatch (λ (y : Transport). y .receiver ≡ d .receiver) d time own payload refl (commandOf cmd) (λ e. refl) (λ e h. refl)
 
 carried-not-valid : (p : Packet) (m : List ℕ) → Carried (notValid p) m
 carried-not-valid (initialization c cmd n field) m = no-echo
@@ -275,16 +273,30 @@ step-refines s e b sound comes roomy = subst (λ (x : Stepping). Refines x (step
 pub sound-stays : SoundStays
 sound-stays s e b sound comes roomy = subst (λ (x : Stepping). Sound (x .stepped .hid) 0) (sym (step-is s e b sound comes roomy)) (stays-sound s e b sound comes roomy)
 
--- set-up means the standard's
-pub fresh-means : (max : ℕ) (u2f : Bool) (m : List ℕ) → transportOf (freshHid max u2f) m ≡ fresh (record { maximum = max; u2f = u2f })
-unfolding receiverOf pick
-fresh-means max true m = refl
-fresh-means max false m = refl
+-- ---- set-up
 
-pub set-up-sound : SetUpSound
-set-up-sound max u2f h =
+-- the settings that a state means: those of set-up, with the list's members in their order
+abbrev pub meant : Settings → Settings
+meant set = listing (vendorOf (bitsOf (set .vendor))) set
+
+pub fresh-means : (set : Settings) (m : List ℕ) → transportOf (fromSettings set) m ≡ fresh (meant set)
+unfolding receiverOf pick
+fresh-means set m = ap (λ (b : Bool). fresh (record { maximum = set .maximum; u2f = b; vendor = vendorOf (bitsOf (set .vendor)) })) (flag (set .u2f))
+  where
+    flag : (b : Bool) → not (eqb (cond b 1 0) 0) ≡ b
+    flag true = refl
+    flag false = refl
+
+permitted-all : (set : Settings) → Permitted set → allVendor (set .vendor) ≡ true
+permitted-all set p = all-vendor-of (set .vendor) (p .vendor)
+
+pub same-members : (set : Settings) → Permitted set → Lists (vendorOf (bitsOf (set .vendor))) set
+same-members set p = leaves-just-the-list (set .vendor) (permitted-all set p) .members
+
+set-up-sound : (set : Settings) → Permitted set → Sound (fromSettings set) 0
+set-up-sound set p =
     record {
-      maximum = h;
+      maximum = p .most;
       count = omega arith;
       last = omega arith;
       deadline = omega arith;
@@ -293,6 +305,16 @@ set-up-sound max u2f h =
       holder = λ l. absurd (omega arith);
       transaction = λ z. absurd (z refl);
       channel = λ z. absurd (z refl);
+    }
+
+pub set-up-taken : SetUpTaken
+unfolding newOf mainNewOf
+set-up-taken set p =
+    let none : Passed (setUpRefusals (set .maximum) (set .vendor)) = (le-ltb 7609 (set .maximum) (p .most), (ap not (permitted-all set p), tt)) in
+    record {
+      transport = none-refuse ready.Refused (setUpRefusals (set .maximum) (set .vendor)) (ready.Hid (fromSettings set)) none;
+      device = none-refuse mainReady.Refused (setUpRefusals (set .maximum) (set .vendor)) (mainReady.Hid (mainFromSettings set)) none;
+      sound = set-up-sound set p;
     }
 
 -- ---- the device's step

@@ -1,15 +1,16 @@
 -- Runs of the code answer as the standard's do. Assumes nothing.
 use Prim.Native.Nat.{ℕ}
-use mathlib.Core.Path.{_≡_, refl, ap}
+use mathlib.Core.Path.{_≡_, refl, ap, _∙_}
 use mathlib.Core.List.{List, [], _∷_, map}
 use Rattle.ctaphid.specs.Transport.{Transport, Event, Next, answersOf, step}
 use Rattle.ctaphid.specs.Device.{deviceStep}
 use Rattle.ctaphid.proofs.Forgetting.{forgotten}
+use Rattle.ctaphid.proofs.Listing.{run-alike, only-members-count}
 use Rattle.answers.specs.Answers.{answered}
 use Rattle.hid.specs.declared.CtapHid.{CtapHid}
 use Rattle.runs.specs.Steps.{Comes}
 use Rattle.runs.specs.Lending.{Call, Lends, Done, runOf, Lent, onCall, mainOnCall, RunsAlike, MainRunsAlike}
-use Rattle.runs.proofs.Refines.{fresh-means, set-up-sound}
+use Rattle.runs.proofs.Refines.{meant, fresh-means, same-members, set-up-taken}
 use Rattle.runs.proofs.Following.{Follows, MainFollows, answers-alike, follows-on, main-answers-alike, main-follows-on}
 
 -- where a state and what was left follow a state of the standard's through any call, they follow it through any run
@@ -23,15 +24,17 @@ module _ {S D : Type 0} (hid : S → CtapHid) (f : S → Call → Done S) (g : D
       λ i. answers s left d c is (lent .0) (lent .1) i ∷ rest i
 
 pub runs-alike : RunsAlike
-runs-alike max u2f cs h lent =
+runs-alike set cs p lent =
     runs-from (λ s. s) onCall step Follows
     (λ s left d c. answers-alike s left d (c .event) (c .lent))
     (λ s left d c. follows-on s left d (c .event) (c .lent))
-    _ [] _ cs (record { sound = set-up-sound max u2f h; means = ap (forgotten 0) (fresh-means max u2f []) }) lent
+    _ [] _ cs (record { sound = set-up-taken set p .sound; means = ap (forgotten 0) (fresh-means set []) }) lent
+    ∙ ap (map answered) (run-alike set (meant set .vendor) (same-members set p) (map (λ (c : Call). c .event) cs))
 
 pub main-runs-alike : MainRunsAlike
-main-runs-alike max u2f cs h lent =
+main-runs-alike set cs p lent =
     runs-from (λ o. o .hid) mainOnCall deviceStep MainFollows
     (λ o left d c. main-answers-alike o left d (c .event) (c .lent))
     (λ o left d c. main-follows-on o left d (c .event) (c .lent))
-    _ [] _ cs (record { sound = set-up-sound max u2f h; means = ap (forgotten 0) (fresh-means max u2f []); wink = refl }) lent
+    _ [] _ cs (record { sound = set-up-taken set p .sound; means = ap (forgotten 0) (fresh-means set []); wink = refl }) lent
+    ∙ ap (map answered) (only-members-count set (meant set .vendor) (same-members set p) (map (λ (c : Call). c .event) cs))

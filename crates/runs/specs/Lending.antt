@@ -2,17 +2,16 @@
 use Prim.Native.Nat.{ℕ, _≤_, _<_}
 use mathlib.Core.Path.{_≡_}
 use mathlib.Core.List.{List, [], _∷_, map}
-use mathlib.Core.Bool.{Bool}
 use lib.ListN.{take}
 use Rattle.ctaphid.specs.Transport.{Settings, Event, fresh, run}
 use Rattle.ctaphid.specs.Device.{setUp, deviceRun}
+use Rattle.ctaphid.specs.Demands.{Permitted}
 use Rattle.answers.specs.Answers.{Said, answered}
 use Rattle.hid.specs.declared.CtapHid.{CtapHid}
 use Rattle.hid.specs.declared.MainHid.{MainHid}
-use Rattle.hid.specs.SetUp.{freshHid, freshMain}
 use Rattle.hid.specs.Hearing.{Stepping}
 use Rattle.hid.specs.MainHid.{MainStepping}
-use Rattle.runs.specs.Steps.{Buffers, onEvent, mainOnEvent, saidBy, mainSaidBy, Comes, Roomy}
+use Rattle.runs.specs.Steps.{Buffers, fromSettings, mainFromSettings, onEvent, mainOnEvent, saidBy, mainSaidBy, Comes, Roomy}
 
 pub record Call : Type 0 where
   pub event : Event
@@ -63,16 +62,13 @@ onCall s c = done (onEvent s (c .event) (c .lent))
 abbrev pub mainOnCall : MainHid → Call → Done MainHid
 mainOnCall o c = mainDone (mainOnEvent o (c .event) (c .lent))
 
-abbrev pub settings : (maximum : ℕ) → (u2f : Bool) → Settings
-settings max u2f = record { maximum = max; u2f = u2f }
-
--- Equality: from set-up on, the code's answers are the standard's, and none is a refusal. Before the first call there is nothing to be left
+-- Equality, whatever the settings that set-up takes, every list of vendor commands among them: from set-up on, the code's answers are the standard's, and none is a refusal. Before the first call there is nothing to be left
 abbrev pub RunsAlike : Type 0
 RunsAlike =
-    (max : ℕ) (u2f : Bool) (cs : List Call) → max ≤ 7609 → Lent (λ s. s) onCall (freshHid max u2f) [] cs
-    → runOf onCall (freshHid max u2f) cs ≡ map answered (run (fresh (settings max u2f)) (map (λ c. c .event) cs))
+    (set : Settings) (cs : List Call) → Permitted set → Lent (λ s. s) onCall (fromSettings set) [] cs
+    → runOf onCall (fromSettings set) cs ≡ map answered (run (fresh set) (map (λ c. c .event) cs))
 
 abbrev pub MainRunsAlike : Type 0
 MainRunsAlike =
-    (max : ℕ) (u2f : Bool) (cs : List Call) → max ≤ 7609 → Lent (λ o. o .hid) mainOnCall (freshMain max u2f) [] cs
-    → runOf mainOnCall (freshMain max u2f) cs ≡ map answered (deviceRun (setUp (settings max u2f)) (map (λ c. c .event) cs))
+    (set : Settings) (cs : List Call) → Permitted set → Lent (λ o. o .hid) mainOnCall (mainFromSettings set) [] cs
+    → runOf mainOnCall (mainFromSettings set) cs ≡ map answered (deviceRun (setUp set) (map (λ c. c .event) cs))

@@ -1,15 +1,14 @@
 -- The code as a device of which demand 3 can be asked, whoever calls it. Assumes nothing.
-use Prim.Native.Nat.{ℕ, _≤_}
+use Prim.Native.Nat.{ℕ}
 use mathlib.Core.List.{List, [], _∷_}
 use Rattle.ctaphid.specs.Receiver.{isOn}
 use Rattle.ctaphid.specs.Transport.{Settings, Event, Answer, nothing, Next, next, isLockedBy}
-use Rattle.ctaphid.specs.Demands.{AnyDevice, Taken, after, GivesShare}
+use Rattle.ctaphid.specs.Demands.{AnyDevice, Permitted, Taken, after, GivesShare}
 use Rattle.answers.specs.Answers.{Said, refused, answered}
 use Rattle.hid.specs.declared.CtapHid.{CtapHid}
 use Rattle.hid.specs.Meaning.{transportOf}
-use Rattle.hid.specs.SetUp.{freshHid}
 use Rattle.hid.specs.Hearing.{Stepping}
-use Rattle.runs.specs.Steps.{Buffers, buffers, onEvent, saidBy}
+use Rattle.runs.specs.Steps.{Buffers, buffers, fromSettings, onEvent, saidBy}
 use Rattle.runs.specs.Lending.{Lends}
 
 -- what there is between two calls: the state, both buffers as the last call left them, and the events so far, the latest first
@@ -34,16 +33,16 @@ abbrev pub code : Caller → AnyDevice
 code lent =
     record {
       State = Held;
-      setUp = λ set. record { hid = freshHid (set .maximum) (set .u2f); left = buffers [] []; past = [] };
+      setUp = λ set. record { hid = fromSettings set; left = buffers [] []; past = [] };
       step = λ h e. leftBy (onEvent (h .hid) e (lent h e)) (e ∷ h .past);
       isOn = λ h c time. isOn (transportOf (h .hid) (h .left .message) .receiver) c time;
       isLockedBy = λ h c time. isLockedBy (transportOf (h .hid) (h .left .message) .lock) c time;
     }
 
--- a caller who lends as it must: with any maximum, after any history without refusals, for any event that isn't refused
+-- a caller who lends as it must: with any settings that set-up takes, after any history without refusals, for any event that isn't refused
 abbrev pub LendsWell : Caller → Type 0
 LendsWell lent =
-    (set : Settings) → set .maximum ≤ 7609 → (past : List Event) (e : Event) → Taken (e ∷ past)
+    (set : Settings) → Permitted set → (past : List Event) (e : Event) → Taken (e ∷ past)
     → Lends (after (code lent) set past .hid) (e .time) (after (code lent) set past .left .message) (lent (after (code lent) set past) e)
 
 -- demand 3, of the code

@@ -2,17 +2,20 @@
 use Prim.Native.Nat.{ℕ, _≤_}
 use mathlib.Core.Path.{_≡_}
 use mathlib.Core.List.{List}
-use mathlib.Core.Bool.{Bool, true}
+use mathlib.Core.Bool.{true}
 use lib.ListN.{length}
 use Rattle.ctaphid.specs.Packets.{Bytes}
-use Rattle.ctaphid.specs.Transport.{Transport, Event, Next, step}
+use Rattle.ctaphid.specs.Transport.{Settings, Transport, Event, Next, step}
 use Rattle.ctaphid.specs.Device.{Device, deviceStep}
+use Rattle.ctaphid.specs.Demands.{Permitted}
 use Rattle.answers.specs.Answers.{Said, answered, said}
 use Rattle.hid.specs.declared.CtapHid.{CtapHid}
 use Rattle.hid.specs.declared.MainHid.{MainHid}
 use Rattle.hid.specs.Meaning.{transportOf, deviceOf}
 use Rattle.hid.specs.Soundness.{Sound}
-use Rattle.hid.specs.SetUp.{freshHid}
+use Rattle.hid.specs.declared.Ready.the-variants as transport
+use Rattle.hid.specs.declared.MainReady.the-variants as device
+use Rattle.hid.specs.SetUp.{freshHid, freshMain, newOf, mainNewOf}
 use Rattle.hid.specs.Hearing.{Stepping}
 use Rattle.hid.specs.Transport.{stepOf}
 use Rattle.hid.specs.MainHid.{MainStepping, mainStepOf}
@@ -24,6 +27,13 @@ pub record Buffers : Type 0 where
 
 abbrev pub buffers : (message short : List ℕ) → Buffers
 buffers m r = record { message = m; short = r }
+
+-- the states that set-up makes of settings
+abbrev pub fromSettings : Settings → CtapHid
+fromSettings set = freshHid (set .maximum) (set .u2f) (set .vendor)
+
+abbrev pub mainFromSettings : Settings → MainHid
+mainFromSettings set = freshMain (set .maximum) (set .u2f) (set .vendor)
 
 -- ---- a call for an event, and what it says
 
@@ -90,6 +100,11 @@ DisabledKeeps = (s : CtapHid) (time : ℕ) (p m r : List ℕ) → stepOf s time 
 abbrev pub MainDisabledKeeps : Type 0
 MainDisabledKeeps = (o : MainHid) (time : ℕ) (p m r : List ℕ) → mainStepOf o time true p m r .message ≡ m
 
--- set-up is sound, whatever the maximum that isn't refused
-abbrev pub SetUpSound : Type 0
-SetUpSound = (max : ℕ) (u2f : Bool) → max ≤ 7609 → Sound (freshHid max u2f) 0
+-- set-up takes the settings that are permitted, and its state is sound
+pub record SetsUp (set : Settings) : Type 0 where
+  pub transport : newOf (set .maximum) (set .u2f) (set .vendor) ≡ transport.Hid (fromSettings set)
+  pub device : mainNewOf (set .maximum) (set .u2f) (set .vendor) ≡ device.Hid (mainFromSettings set)
+  pub sound : Sound (fromSettings set) 0
+
+abbrev pub SetUpTaken : Type 0
+SetUpTaken = (set : Settings) → Permitted set → SetsUp set
