@@ -2,12 +2,14 @@
 use Prim.Native.Nat.{ℕ, _+_, _*_, _≤_, _<_}
 use native.Mathlib.Omega.{arith}
 use native.Mathlib.Decide.{decLe}
-use mathlib.Core.Path.{_≡_, refl, ap, _∙_}
+use mathlib.Core.Path.{_≡_, refl, sym, ap, _∙_}
 use mathlib.Core.List.{List}
-use borrow.Author.Tests.{lt-ltb, le-ltb}
+use mathlib.Core.Bool.{Bool, true, false}
+use borrow.Author.Tests.{lt-ltb, le-ltb, ltb-false}
+use lib.Dec.{ltb}
 use lib.ListN.{length, drop, length-append}
 use Rattle.ctaphid.specs.Choice.{pick}
-use Rattle.ctaphid.specs.Commands.{Command, number, MSG, CBOR, INIT, PING, CANCEL, ERROR, KEEPALIVE, WINK, LOCK}
+use Rattle.ctaphid.specs.Commands.{number}
 use Rattle.packet.specs.declared.command.CtapHidCommand.{CtapHidCommand}
 use Rattle.packet.specs.Numbers.{commandMeant}
 use Rattle.answers.specs.declared.Answer.{Answer}
@@ -16,26 +18,28 @@ use Rattle.answers.specs.Payloads.{payloadOf}
 use Rattle.bench_output.specs.Placing.{Put}
 use Rattle.bench_input.specs.Hex.{ascii, hexOf}
 use Rattle.bench_output.specs.Packets.{packetLines}
-use Rattle.bench_output.specs.Printing.{refusedLine, commandLine, answerLines, saidWith, Printing, printing, printed, textOf, hexTextOf, NoneLonger}
+use Rattle.bench_output.specs.Printing.{refusedLine, commandLine, answerLines, saidWith, isUnsendable, Printing, printing, printed, textOf, hexTextOf, NoneLonger}
 use Rattle.bench_input.proofs.ReadBack.{length-hex}
 use Rattle.bench_output.proofs.Spelling.{decimal-length, payload-length}
 use Rattle.bench_output.proofs.Cutting.{lines-length}
 use Rattle.bench_output.specs.declared.Text.{Text}
 use Rattle.bench_output.specs.declared.Text.the-variants.{Bytes, Refused}
 
-number-low : (k : Command) → number k ≤ 127
-number-low MSG = omega arith
-number-low CBOR = omega arith
-number-low INIT = omega arith
-number-low PING = omega arith
-number-low CANCEL = omega arith
-number-low ERROR = omega arith
-number-low KEEPALIVE = omega arith
-number-low WINK = omega arith
-number-low LOCK = omega arith
+-- ---- a command that is sent is one that a packet can carry
+module _ {a : Answer} (h : isUnsendable a ≡ false) {k : ℕ} {c len : ℕ} {cmd : CtapHidCommand} (is : k ≡ number (commandMeant cmd)) where
+  pub echo-low : a ≡ answers.Echo c cmd len → k ≤ 127
+  echo-low e = omega (arith, ltb-false 127 (number (commandMeant cmd)) (sym (ap isUnsendable e) ∙ h))
 
-pub sent-low : {k : ℕ} (cmd : CtapHidCommand) → k ≡ number (commandMeant cmd) → k ≤ 127
-sent-low {k} cmd is = omega (arith, number-low (commandMeant cmd))
+  pub reply-low : a ≡ answers.Reply c cmd len → k ≤ 127
+  reply-low e = omega (arith, ltb-false 127 (number (commandMeant cmd)) (sym (ap isUnsendable e) ∙ h))
+
+-- and the test of it
+module _ {a : Answer} (k : ℕ) {c len : ℕ} {cmd : CtapHidCommand} where
+  pub sent-echo : a ≡ answers.Echo c cmd len → k ≡ number (commandMeant cmd) → ltb 127 k ≡ isUnsendable a
+  sent-echo e is = ap (ltb 127) is ∙ sym (ap isUnsendable e)
+
+  pub sent-reply : a ≡ answers.Reply c cmd len → k ≡ number (commandMeant cmd) → ltb 127 k ≡ isUnsendable a
+  sent-reply e is = ap (ltb 127) is ∙ sym (ap isUnsendable e)
 
 -- ---- an answer's lines, by its case
 abbrev Says : Answer → (payload out : List ℕ) → ℕ → List ℕ → Type 0
@@ -69,14 +73,18 @@ module _ (a : Answer) (m r out : List ℕ) where
   unfolding textOf pick
   text-2 h = simp (lt-ltb _ _ h)
 
-  module _ (h : 16899 ≤ length out) (payload : List ℕ) (is : payload ≡ payloadOf a m r) where
+  pub text-12 : 16899 ≤ length out → {b : Bool} → b ≡ isUnsendable a → b ≡ true → textOf a m r out ≡ printing (Refused 12) out
+  unfolding textOf pick
+  text-12 h is t = simp (le-ltb (length out) 16899 h, sym is ∙ t)
+
+  module _ (h : 16899 ≤ length out) {b : Bool} (sent : b ≡ isUnsendable a) (off : b ≡ false) (payload : List ℕ) (is : payload ≡ payloadOf a m r) where
     pub text-7 : 7609 < length payload → textOf a m r out ≡ printing (Refused 7) out
     unfolding textOf pick
-    text-7 n = rw (← is) (simp (le-ltb (length out) 16899 h, lt-ltb 7609 (length payload) n))
+    text-7 n = rw (← is) (simp (le-ltb (length out) 16899 h, sym sent ∙ off, lt-ltb 7609 (length payload) n))
 
     pub text-is : length payload ≤ 7609 → textOf a m r out ≡ printed (answerLines (saidWith a payload)) out
     unfolding textOf pick
-    text-is n = rw (← is) (simp (le-ltb (length out) 16899 h, le-ltb 7609 (length payload) n))
+    text-is n = rw (← is) (simp (le-ltb (length out) 16899 h, sym sent ∙ off, le-ltb 7609 (length payload) n))
 
 -- ---- lengths
 pub none-longer : NoneLonger
@@ -100,13 +108,17 @@ refused-not is e = let z : _≡_ {A = ℕ} 0 1 = cc (ap (λ (o : Printing). o .a
 pub text-fits : (a : Answer) (m r out : List ℕ) {x : Text} {n : ℕ} {left : List ℕ} → x ≡ Bytes n → printing x left ≡ textOf a m r out → n ≤ length left
 text-fits a m r out {x} {n} {left} is e = by-room (decLe 16899 (length out))
   where
-    by-payload : 16899 ≤ length out → Dec (length (payloadOf a m r) ≤ 7609) → n ≤ length left
-    by-payload room (yes h) =
-        printed-fits (answerLines (saidWith a (payloadOf a m r))) out is (e ∙ text-is a m r out room (payloadOf a m r) refl h) .1
-    by-payload room (no h) = absurd (refused-not is (e ∙ text-7 a m r out room (payloadOf a m r) refl (omega arith)))
+    by-payload : 16899 ≤ length out → isUnsendable a ≡ false → Dec (length (payloadOf a m r) ≤ 7609) → n ≤ length left
+    by-payload room off (yes h) =
+        printed-fits (answerLines (saidWith a (payloadOf a m r))) out is (e ∙ text-is a m r out room refl off (payloadOf a m r) refl h) .1
+    by-payload room off (no h) = absurd (refused-not is (e ∙ text-7 a m r out room refl off (payloadOf a m r) refl (omega arith)))
+
+    by-command : 16899 ≤ length out → (b : Bool) → isUnsendable a ≡ b → n ≤ length left
+    by-command room true on = absurd (refused-not is (e ∙ text-12 a m r out room refl on))
+    by-command room false off = by-payload room off (decLe (length (payloadOf a m r)) 7609)
 
     by-room : Dec (16899 ≤ length out) → n ≤ length left
-    by-room (yes room) = by-payload room (decLe (length (payloadOf a m r)) 7609)
+    by-room (yes room) = by-command room (isUnsendable a) refl
     by-room (no room) = absurd (refused-not is (e ∙ text-2 a m r out (omega arith)))
 
 pub hex-fits : (bytes out : List ℕ) {x : Text} {n : ℕ} {left : List ℕ} → x ≡ Bytes n → printing x left ≡ hexTextOf bytes out → (n ≡ 2 * length bytes) × (n ≤ length left)

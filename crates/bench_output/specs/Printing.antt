@@ -1,6 +1,7 @@
 -- The lines that an answer of the device prints (docs/RULES.md, The bench's lines). Assumes nothing.
 use Prim.Native.Nat.{ℕ, _+_, _*_, _≤_}
 use mathlib.Core.List.{List, [], _∷_, _++_}
+use mathlib.Core.Bool.{Bool, false}
 use lib.ListN.{length}
 use lib.Dec.{ltb}
 use Rattle.ctaphid.specs.Choice.{refusing}
@@ -52,6 +53,14 @@ saidWith (answers.Message c cmd len) payload = answered (request c (commandMeant
 saidWith (answers.Echo c cmd len) payload = answered (reply c (commandMeant cmd) payload)
 saidWith (answers.Reply c cmd len) payload = answered (reply c (commandMeant cmd) payload)
 
+-- whether it is to be sent with a command above 127, which no packet can carry
+abbrev pub isUnsendable : Answer → Bool
+isUnsendable (answers.Refused n) = false
+isUnsendable answers.Nothing = false
+isUnsendable (answers.Message c cmd len) = false
+isUnsendable (answers.Echo c cmd len) = ltb 127 (number (commandMeant cmd))
+isUnsendable (answers.Reply c cmd len) = ltb 127 (number (commandMeant cmd))
+
 -- 129 packets of 2 + 128 + 1 characters: no answer prints more
 abbrev pub longest : ℕ
 longest = 129 * (2 + 2 * 64 + 1)
@@ -68,11 +77,11 @@ printing t out = record { answer = t; out = out }
 abbrev pub printed : (text buffer : List ℕ) → Printing
 printed t out = printing (Bytes (length t)) (front t out)
 
--- refusal 2: the buffer is shorter than the longest text; 7: a payload of over 7,609 bytes. A refused call leaves the buffer
+-- refusal 2: the buffer is shorter than the longest text; 12: a command above 127 to be sent; 7: a payload of over 7,609 bytes. A refused call leaves the buffer
 unfoldable pub textOf : Answer → (message short out : List ℕ) → Printing
 textOf a m r out =
     refusing (λ number. printing (Refused number) out)
-    ((ltb (length out) longest, 2) ∷ (ltb largest (length (payloadOf a m r)), 7) ∷ [])
+    ((ltb (length out) longest, 2) ∷ (isUnsendable a, 12) ∷ (ltb largest (length (payloadOf a m r)), 7) ∷ [])
     (printed (answerLines (saidWith a (payloadOf a m r))) out)
 
 -- refusal 2: the buffer is shorter than the text

@@ -9,18 +9,22 @@ use answers::Answer;
 use packet::Limits;
 use packet::Refusal;
 ghost use mathlib.Core.Path.{_≡_};
+ghost use mathlib.Core.Bool.{false};
 ghost use Prim.Native.Nat.{_+_, _*_, _≤_};
 ghost use lib.ListN.{length};
 ghost use Rattle.bench_output.specs.Placing.{Put};
-ghost use Rattle.bench_output.specs.Printing.{payloadText, commandLine, refusedLine, answerLines, saidWith, printing, textOf, hexTextOf};
+ghost use Rattle.bench_output.specs.Printing.{payloadText, commandLine, refusedLine, answerLines, saidWith, isUnsendable, printing, textOf, hexTextOf};
 
 // The lines that an answer prints, each with its newline, at the front of out. A buffer shorter than the longest text is refused
-// with 2, a payload of more than 7,609 bytes with 7. One lifetime for both buffers, as the payload is a part of either.
+// with 2, a command above 127 to be sent with 12, a payload of more than 7,609 bytes with 7. One lifetime for both buffers, as the payload is a part of either.
 pub fn answer_text<'a>(answer: Answer, message: &'a [u8], reply: &'a [u8], out: &mut [u8]) -> Text
     ensures { λ r. ⌜ printing r (now (out .exit)) ≡ textOf answer (now (message .entry)) (now (reply .entry)) (now (out .entry)) ⌝ }
 {
     if out.len() < Texts::LONGEST {
         return Text::Refused(Refusal::SHORT_BUFFER);
+    }
+    if is_unsendable(answer) {
+        return Text::Refused(Refusal::COMMAND);
     }
     let payload = answers::payload(answer, message, reply);
     if payload.len() > Limits::LARGEST_PAYLOAD {
@@ -39,8 +43,33 @@ pub fn hex_text(bytes: &[u8], out: &mut [u8]) -> Text
     Text::Bytes(put_hex(bytes, out, 0))
 }
 
+// Whether it is to be sent with a command above 127, which no packet can carry.
+fn is_unsendable(answer: Answer) -> bool
+    ensures { λ r. ⌜ r ≡ isUnsendable answer ⌝ }
+{
+    match answer {
+        Answer::Refused(_) => false,
+        Answer::Nothing => false,
+        Answer::Message {
+            cid: _,
+            cmd: _,
+            len: _,
+        } => false,
+        Answer::Echo {
+            cid: _,
+            cmd,
+            len: _,
+        } => cmd.number() > 127,
+        Answer::Reply {
+            cid: _,
+            cmd,
+            len: _,
+        } => cmd.number() > 127,
+    }
+}
+
 fn put_answer(answer: Answer, payload: &[u8], out: &mut [u8]) -> usize
-    requires { ⌜ (length (now payload) ≤ 7609) × (16899 ≤ length (now out)) ⌝ }
+    requires { ⌜ (length (now payload) ≤ 7609) × (16899 ≤ length (now out)) × (isUnsendable answer ≡ false) ⌝ }
     ensures { λ r. ⌜ Put 0 (answerLines (saidWith answer (now (payload .entry)))) (now (out .entry)) r (now (out .exit)) ⌝ }
 {
     match answer {

@@ -22,7 +22,7 @@ struct Bench {
 pub fn run(setups: bool)
     ensures { λ r. ⌜ r ≡ tt ⌝ }
 {
-    match MainHid::new(Limits::LARGEST_PAYLOAD, true) {
+    match MainHid::new(Limits::LARGEST_PAYLOAD, true, b"") {
         MainReady::Hid(hid) => take_input(hid, setups),
         // never: there is no larger maximum
         MainReady::Refused(_) => {}
@@ -260,7 +260,7 @@ fn set_up(bench: Bench, line: &[u8]) -> Bench {
 
 fn fresh(bench: Bench, max: usize, u2f: bool, count: u32) -> Bench {
     let mut next = bench;
-    match MainHid::new(max, u2f) {
+    match MainHid::new(max, u2f, b"") {
         MainReady::Hid(made) => {
             let mut hid = made.hid;
             hid.allocated = count;

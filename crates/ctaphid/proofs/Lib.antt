@@ -11,6 +11,7 @@ pub mod Invariant
 pub mod Steps
 pub mod Deliver
 pub mod Listing
+pub mod Replies
 pub mod Carried
 pub mod Instances
 pub mod WrongDelivery

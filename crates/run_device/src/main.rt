@@ -1,4 +1,4 @@
-// Runs of the device beside the rows of docs/RULES.md: a broadcast INIT that declares 60 bytes, and a wink at its end.
+// Runs of the device beside the rows of docs/RULES.md: a broadcast INIT that declares 60 bytes, a wink at its end, and vendor commands.
 // A line has the time, the packet's front and the answer: its payload where it has one.
 use hid::Answer;
 use hid::MainHid;
@@ -10,7 +10,7 @@ use report::hex;
 use report::text;
 
 fn main() {
-    match MainHid::new(Limits::LARGEST_PAYLOAD, true) {
+    match MainHid::new(Limits::LARGEST_PAYLOAD, true, b"") {
         MainReady::Hid(hid) => {
             text(
                 b"a broadcast INIT declared 60 blocks all others for 100 ms, and its continuation gets nothing\n",
@@ -18,6 +18,15 @@ fn main() {
             blocked(hid);
             text(b"a wink runs for 5,000 ms\n");
             winked(hid);
+        }
+        MainReady::Refused(_) => text(b"refused\n"),
+    }
+    match MainHid::new(Limits::LARGEST_PAYLOAD, true, b"\x7f\x40\x7f") {
+        MainReady::Hid(hid) => {
+            text(
+                b"with vendor commands 40 and 7f: these end a wink and are handed out, 41 is not\n",
+            );
+            branded(hid);
         }
         MainReady::Refused(_) => text(b"refused\n"),
     }
@@ -44,6 +53,19 @@ fn winked(fresh: MainHid) {
     asked(hid, 0);
     asked(hid, 4999);
     asked(hid, 5000);
+}
+
+fn branded(fresh: MainHid) {
+    let mut hid = fresh;
+    hid = step(hid, 0, b"\xff\xff\xff\xff\x86\x00\x08");
+    hid = step(hid, 0, b"\x00\x00\x00\x01\x88\x00\x00");
+    hid = step(hid, 1, b"\x00\x00\x00\x01\xc0\x00\x02\xaa\xbb");
+    asked(hid, 1);
+    hid = step(hid, 2, b"\x00\x00\x00\x01\xff\x00\x00");
+    hid = step(hid, 3, b"\x00\x00\x00\x01\xc1\x00\x02\xaa\xbb");
+    hid = step(hid, 4, b"\xff\xff\xff\xff\xc0\x00\x02\xaa\xbb");
+    hid = step(hid, 5, b"\x00\x00\x00\x02\xc0\x00\x02\xaa\xbb");
+    asked(hid, 5);
 }
 
 // A packet that begins so and whose other bytes are 0.

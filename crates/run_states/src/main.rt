@@ -11,6 +11,7 @@ use hid::Ready;
 use hid::Running;
 use libc::STDOUT_FILENO;
 use packet::Limits;
+use report::hex;
 use report::text;
 
 // What is tried: a transport, or a device.
@@ -32,8 +33,13 @@ fn main() {
     times();
     order();
     main_order();
-    set_up(7609);
-    set_up(7610);
+    set_up(7609, b"");
+    set_up(7610, b"");
+    set_up(7609, b"\x7f\x40\x7f");
+    set_up(7609, b"\x3f");
+    set_up(7609, b"\x80");
+    set_up(7609, b"\x40\x00\x7f");
+    set_up(7610, b"\x3f");
     echo(7609);
     echo(7610);
 }
@@ -51,10 +57,12 @@ fn base() -> CtapHid {
         },
         lock: 0,
         last: LAST,
+        vendor: 0,
         allocated: 2,
         locked: 0,
         max: 200,
         u2f: 1,
+        spare: 0,
     }
 }
 
@@ -87,6 +95,12 @@ fn limits() {
     trial(b"last time 2^48 - 1", hid);
     hid.last = TWO_TO_48;
     trial(b"last time 2^48", hid);
+    hid = base();
+    hid.vendor = 0xFFFF_FFFF_FFFF_FFFF;
+    trial(b"all vendor commands", hid);
+    hid = base();
+    hid.spare = 0xFFFF_FFFF_FFFF_FFFF;
+    trial(b"any spare number", hid);
 }
 
 fn deadlines() {
@@ -244,15 +258,17 @@ fn answered(
     show(answer);
 }
 
-fn set_up(max: usize) {
+fn set_up(max: usize, vendor: &[u8]) {
     text(b"set-up with ");
     io::print_decimal(STDOUT_FILENO, max as u64);
-    text(b":");
-    match CtapHid::new(max, true) {
+    text(b" and vendor commands \"");
+    hex(vendor);
+    text(b"\":");
+    match CtapHid::new(max, true, vendor) {
         Ready::Hid(_) => text(b" fresh"),
         Ready::Refused(number) => refused(number),
     }
-    match MainHid::new(max, true) {
+    match MainHid::new(max, true, vendor) {
         MainReady::Hid(_) => text(b" fresh"),
         MainReady::Refused(number) => refused(number),
     }

@@ -1,5 +1,5 @@
 -- `put_answer` meets its contract. Assumes nothing.
-use Rattle.bench_output.proofs.Answers.{sent-low, said-refused, said-nothing, said-message, said-echo, said-reply}
+use Rattle.bench_output.proofs.Answers.{echo-low, reply-low, said-refused, said-nothing, said-message, said-echo, said-reply}
 use borrow.Author.Needs.{needs}
 use Rattle.bench_output.proofs.printing.put_answer.Statement.{statement}
 use Rattle.bench_output.proofs.printing.put_answer.Tie as tie
@@ -35,7 +35,7 @@ number-requires-2 : tie.Need-number-requires-2
 number-requires-2 c κs = search needs
 
 put-packets-requires : tie.Need-put-packets-requires
-put-packets-requires c κs = (search (sent-low), search needs, search needs)
+put-packets-requires c κs = (search echo-low, search needs, search needs)
 
 enum-known-answer-4 : tie.Need-enum-known-answer-4
 enum-known-answer-4 c = search needs
@@ -44,7 +44,7 @@ number-requires-3 : tie.Need-number-requires-3
 number-requires-3 c κs = search needs
 
 put-packets-requires-2 : tie.Need-put-packets-requires-2
-put-packets-requires-2 c κs = (search (sent-low), search needs, search needs)
+put-packets-requires-2 c κs = (search reply-low, search needs, search needs)
 
 same-length : tie.Need-same-length
 same-length c = search needs
