@@ -385,6 +385,8 @@ fn same(a: CtapHid, b: CtapHid) -> bool {
         && a.locked == b.locked
         && a.max == b.max
         && a.u2f == b.u2f
+        && a.vendor == b.vendor
+        && a.spare == b.spare
 }
 
 fn same_assembler(a: MessageAssembler, b: MessageAssembler) -> bool {
