@@ -46,17 +46,18 @@ static snjofrask_outcome narrowed(proved_outcome outcome)
 
 /* ---- a device */
 
-void proved_device_new(uint8_t *refusal, snjofrask_device *hid, uint64_t max, uint8_t u2f);
+void proved_device_new(uint8_t *refusal, snjofrask_device *hid, uint64_t max, uint8_t u2f, const uint8_t *vendor,
+                       uint64_t vendor_len);
 void proved_device_step(proved_outcome *outcome, snjofrask_device *hid, uint64_t time, uint8_t disabled,
                         const uint8_t *packet, uint64_t packet_len, uint8_t *message, uint64_t message_len,
                         uint8_t *reply, uint64_t reply_len);
 void proved_is_winking(uint8_t *winking, const snjofrask_device *hid, uint64_t time);
 
-uint8_t snjofrask_device_new(snjofrask_device *hid, size_t max, uint8_t u2f)
+uint8_t snjofrask_device_new(snjofrask_device *hid, size_t max, uint8_t u2f, const uint8_t *vendor, size_t vendor_len)
 {
     uint8_t refusal;
 
-    proved_device_new(&refusal, hid, max, u2f);
+    proved_device_new(&refusal, hid, max, u2f, vendor, vendor_len);
     return refusal;
 }
 
@@ -80,17 +81,18 @@ uint8_t snjofrask_is_winking(const snjofrask_device *hid, uint64_t time)
 
 /* ---- a transport alone */
 
-void proved_transport_new(uint8_t *refusal, snjofrask_transport *hid, uint64_t max, uint8_t u2f);
+void proved_transport_new(uint8_t *refusal, snjofrask_transport *hid, uint64_t max, uint8_t u2f, const uint8_t *vendor,
+                          uint64_t vendor_len);
 void proved_transport_step(proved_outcome *outcome, snjofrask_transport *hid, uint64_t time, uint8_t disabled,
                            const uint8_t *packet, uint64_t packet_len, uint8_t *message, uint64_t message_len,
                            uint8_t *reply, uint64_t reply_len);
 void proved_is_locked(uint8_t *locked, const snjofrask_transport *hid, uint64_t time);
 
-uint8_t snjofrask_transport_new(snjofrask_transport *hid, size_t max, uint8_t u2f)
+uint8_t snjofrask_transport_new(snjofrask_transport *hid, size_t max, uint8_t u2f, const uint8_t *vendor, size_t vendor_len)
 {
     uint8_t refusal;
 
-    proved_transport_new(&refusal, hid, max, u2f);
+    proved_transport_new(&refusal, hid, max, u2f, vendor, vendor_len);
     return refusal;
 }
 

@@ -21,7 +21,7 @@
  * A state (a transport or a device) comes from its _new entry and is altered by calls alone. Whatever else stands there
  * does no harm: a step refuses it with 2, where its max is more than the message buffer has, or with 3, where it makes no
  * sense; contents that happen to make sense are taken for a state. All zeros make sense: a device with a maximum of 0,
- * without U2F, which tells every INIT that it is too long. A collection that is all zeros is a fresh one.
+ * without U2F or vendor commands, which tells every INIT that it is too long. A collection that is all zeros is a fresh one.
  *
  * Threads: there are no globals. Calls over different structs and buffers may run at once; a struct and its buffers
  * serve one call at a time.
@@ -48,18 +48,18 @@
  */
 #if defined(__x86_64__) && !defined(__ILP32__) && !defined(_WIN32) && !defined(__CYGWIN__)
 #define SNJOFRASK_ENTRY __attribute__((sysv_abi))
-#define SNJOFRASK_STACK_SIZE 504
+#define SNJOFRASK_STACK_SIZE 578
 #elif defined(__ARM_EABI__) && defined(__thumb2__) && !defined(__ARM_BIG_ENDIAN) && __ARM_ARCH_PROFILE == 'M' && \
     (__ARM_ARCH >= 8 || defined(__ARM_FEATURE_DSP))
 #define SNJOFRASK_ENTRY __attribute__((pcs("aapcs")))
-#define SNJOFRASK_STACK_SIZE 504
+#define SNJOFRASK_STACK_SIZE 568
 #elif defined(__riscv) && __riscv_xlen == 32 && !defined(__riscv_32e) && defined(__riscv_mul) && defined(__riscv_compressed) && \
     defined(__riscv_float_abi_soft)
 #define SNJOFRASK_ENTRY
-#define SNJOFRASK_STACK_SIZE 496
+#define SNJOFRASK_STACK_SIZE 576
 #elif defined(__aarch64__) && defined(__LP64__) && !defined(__AARCH64EB__) && !defined(__APPLE__)
 #define SNJOFRASK_ENTRY
-#define SNJOFRASK_STACK_SIZE 416
+#define SNJOFRASK_STACK_SIZE 496
 #else
 #error "there is no libsnjofrask.a for this processor and calling convention: firmware/README.md says for which there is"
 #endif
@@ -79,9 +79,9 @@ extern "C" {
 /* ---- numbers */
 
 /* Of the library: header and archive belong together. */
-#define SNJOFRASK_VERSION "0.3.0"
+#define SNJOFRASK_VERSION "0.4.0"
 #define SNJOFRASK_VERSION_MAJOR 0
-#define SNJOFRASK_VERSION_MINOR 3
+#define SNJOFRASK_VERSION_MINOR 4
 #define SNJOFRASK_VERSION_PATCH 0
 
 /* Limits: bytes and milliseconds. */
@@ -105,7 +105,7 @@ extern "C" {
 /* The channel on which a host asks for one of its own. */
 #define SNJOFRASK_CHANNEL_BROADCAST 0xFFFFFFFF
 
-/* Commands. A device takes any other for ERROR. */
+/* Commands. A device takes any other for ERROR, but for the vendor's. */
 #define SNJOFRASK_CMD_PING 0x01
 #define SNJOFRASK_CMD_MSG 0x03
 #define SNJOFRASK_CMD_LOCK 0x04
@@ -115,6 +115,10 @@ extern "C" {
 #define SNJOFRASK_CMD_CANCEL 0x11
 #define SNJOFRASK_CMD_KEEPALIVE 0x3B
 #define SNJOFRASK_CMD_ERROR 0x3F
+
+/* Vendor commands, the first and the last. Set-up says which of them a device knows; any other is told INVALID_CMD. */
+#define SNJOFRASK_CMD_VENDOR_FIRST 0x40
+#define SNJOFRASK_CMD_VENDOR_LAST 0x7F
 
 /* Errors: the one byte of a reply with command ERROR. */
 #define SNJOFRASK_ERR_INVALID_CMD 0x01
@@ -147,6 +151,7 @@ extern "C" {
 #define SNJOFRASK_REFUSAL_LONG_REPLY 10      /* host: a reply that the buffer can't hold, or a KEEPALIVE not of 1 byte */
 #define SNJOFRASK_REFUSAL_NOT_INIT 11        /* host: not a reply to INIT, or one below 17 or above 7,609 bytes */
 #define SNJOFRASK_REFUSAL_COMMAND 12         /* a command above 127 to be sent */
+#define SNJOFRASK_REFUSAL_VENDOR 13          /* set-up with a vendor command below 64 or above 127 */
 
 /* Kinds of outcome, and which fields say something. The others are 0. */
 #define SNJOFRASK_KIND_REFUSED 0             /* refusal */
@@ -174,15 +179,18 @@ typedef struct snjofrask_assembler {
     uint16_t seq;
 } snjofrask_assembler;
 
-/* A transport. Channels 1 to allocated are allocated; channel locked holds the lock until the time lock; last is the time of the latest step. */
+/* A transport. Channels 1 to allocated are allocated; channel locked holds the lock until the time lock; last is the time of the latest step.
+   vendor has a bit for each vendor command, the lowest for 64: it is set where the command is known. spare is ignored, and stays as it is. */
 typedef struct snjofrask_transport {
     snjofrask_assembler assembler;
     uint64_t lock;
     uint64_t last;
+    uint64_t vendor;
     uint32_t allocated;
     uint32_t locked;
     uint32_t max;
     uint32_t u2f;
+    uint64_t spare;
 } snjofrask_transport;
 
 /* A device: a transport, and a wink that runs until the time wink. */
@@ -236,20 +244,22 @@ SNJOFRASK_ASSERT(offsetof(snjofrask_assembler, taken) == 16);
 SNJOFRASK_ASSERT(offsetof(snjofrask_assembler, cmd) == 20);
 SNJOFRASK_ASSERT(offsetof(snjofrask_assembler, seq) == 22);
 
-SNJOFRASK_ASSERT(sizeof(snjofrask_transport) == 56);
+SNJOFRASK_ASSERT(sizeof(snjofrask_transport) == 72);
 SNJOFRASK_ASSERT(SNJOFRASK_ALIGNMENT(snjofrask_transport) == 8);
 SNJOFRASK_ASSERT(offsetof(snjofrask_transport, assembler) == 0);
 SNJOFRASK_ASSERT(offsetof(snjofrask_transport, lock) == 24);
 SNJOFRASK_ASSERT(offsetof(snjofrask_transport, last) == 32);
-SNJOFRASK_ASSERT(offsetof(snjofrask_transport, allocated) == 40);
-SNJOFRASK_ASSERT(offsetof(snjofrask_transport, locked) == 44);
-SNJOFRASK_ASSERT(offsetof(snjofrask_transport, max) == 48);
-SNJOFRASK_ASSERT(offsetof(snjofrask_transport, u2f) == 52);
+SNJOFRASK_ASSERT(offsetof(snjofrask_transport, vendor) == 40);
+SNJOFRASK_ASSERT(offsetof(snjofrask_transport, allocated) == 48);
+SNJOFRASK_ASSERT(offsetof(snjofrask_transport, locked) == 52);
+SNJOFRASK_ASSERT(offsetof(snjofrask_transport, max) == 56);
+SNJOFRASK_ASSERT(offsetof(snjofrask_transport, u2f) == 60);
+SNJOFRASK_ASSERT(offsetof(snjofrask_transport, spare) == 64);
 
-SNJOFRASK_ASSERT(sizeof(snjofrask_device) == 64);
+SNJOFRASK_ASSERT(sizeof(snjofrask_device) == 80);
 SNJOFRASK_ASSERT(SNJOFRASK_ALIGNMENT(snjofrask_device) == 8);
 SNJOFRASK_ASSERT(offsetof(snjofrask_device, hid) == 0);
-SNJOFRASK_ASSERT(offsetof(snjofrask_device, wink) == 56);
+SNJOFRASK_ASSERT(offsetof(snjofrask_device, wink) == 72);
 
 SNJOFRASK_ASSERT(sizeof(snjofrask_collection) == 6);
 SNJOFRASK_ASSERT(SNJOFRASK_ALIGNMENT(snjofrask_collection) == 2);
@@ -279,15 +289,16 @@ SNJOFRASK_ASSERT(offsetof(snjofrask_init_outcome, refusal) == 9);
 SNJOFRASK_ASSERT(offsetof(snjofrask_init_outcome, rest) == 10);
 SNJOFRASK_ASSERT(offsetof(snjofrask_init_outcome, nonce) == 12);
 
-/* ---- a device: everything but what MSG and CBOR mean */
+/* ---- a device: everything but what MSG, CBOR and vendor commands mean */
 
 /*
- * A fresh device that takes messages of up to max bytes, with U2F or without. Channels, lock and wink are none, and
- * its time is 0.
- * Returns 0, or refusal 5, which leaves hid as it came.
+ * A fresh device that takes messages of up to max bytes, with U2F or without. vendor has the numbers of the vendor commands
+ * that it knows, in any order; one may stand there twice, and with a vendor_len of 0 there are none. The list is not needed
+ * any more once this returns. Channels, lock and wink are none, and its time is 0.
+ * Returns 0, or refusal 5 or 13, in this order, which leaves hid as it came.
  */
 SNJOFRASK_ENTRY
-uint8_t snjofrask_device_new(snjofrask_device *hid, size_t max, uint8_t u2f);
+uint8_t snjofrask_device_new(snjofrask_device *hid, size_t max, uint8_t u2f, const uint8_t *vendor, size_t vendor_len);
 
 /*
  * A packet that came at a time. With disabled set, every packet on a valid channel, a broadcast INIT too, is told that
@@ -300,8 +311,8 @@ uint8_t snjofrask_device_new(snjofrask_device *hid, size_t max, uint8_t u2f);
  *  - NOTHING;
  *  - ECHO, REPLY: send the packets of cid, cmd and the payload, by snjofrask_write_packet. The payload stands in message
  *    or reply until the next step that is lent them, so send all packets first;
- *  - MESSAGE: MSG or CBOR for the caller to answer on the same channel with the same command, by
- *    snjofrask_split_message. Once the payload has been read, message is free, for the answer too;
+ *  - MESSAGE: MSG, CBOR or a vendor command that the device knows, for the caller to answer on the same channel with the
+ *    same command, by snjofrask_split_message. Once the payload has been read, message is free, for the answer too;
  *  - REFUSED: by 1, 2, 3 or 4, in this order. hid, message and reply are as they came.
  *
  * While the caller works on a MESSAGE, the device knows of no request: it would take the next one. So the caller
@@ -326,7 +337,7 @@ uint8_t snjofrask_is_winking(const snjofrask_device *hid, uint64_t time);
 
 /* As snjofrask_device_new. */
 SNJOFRASK_ENTRY
-uint8_t snjofrask_transport_new(snjofrask_transport *hid, size_t max, uint8_t u2f);
+uint8_t snjofrask_transport_new(snjofrask_transport *hid, size_t max, uint8_t u2f, const uint8_t *vendor, size_t vendor_len);
 
 /* As snjofrask_device_step, but WINK, and without U2F MSG too, come as MESSAGE. A PING is an ECHO here as well. */
 SNJOFRASK_ENTRY

@@ -42,11 +42,11 @@ static void check(int holds, const char *text, int line)
     }
 }
 
-static void say(const char *what, int result)
+static void say(const char *what, const char *result)
 {
     if (verbose)
         printf("%s: %s; %ld packets written (%zu bytes declared), %ld read (%zu bytes declared), %ld of them KEEPALIVEs\n", what,
-               fido_strerr(result), seen.written, seen.declared, seen.read, seen.answered, seen.keepalives);
+               result, seen.written, seen.declared, seen.read, seen.answered, seen.keepalives);
 }
 
 /* ---- the pipe, in place of USB */
@@ -187,7 +187,7 @@ static fido_dev_t *start(const char *touch, const char *timeout)
         fprintf(stderr, "interop/host.c: %s can't be opened as a device\n", program);
         exit(1);
     }
-    say("open", result);
+    say("open", fido_strerr(result));
     return dev;
 }
 
@@ -215,7 +215,7 @@ static int make_credential(fido_dev_t *dev, size_t letters)
     CHECK(fido_cred_set_user(cred, id, sizeof id, name, NULL, NULL) == FIDO_OK);
     forget();
     result = fido_dev_make_cred(dev, cred, NULL);
-    say("makeCredential", result);
+    say("makeCredential", fido_strerr(result));
     CHECK(arrived() == (seen.declared <= LARGEST));
     fido_cred_free(&cred);
     free(name);
@@ -232,7 +232,7 @@ static int get_assertion(fido_dev_t *dev)
     CHECK(fido_assert_set_rp(assertion, "example.org") == FIDO_OK);
     forget();
     result = fido_dev_get_assert(dev, assertion, NULL);
-    say("getAssertion", result);
+    say("getAssertion", fido_strerr(result));
     CHECK(arrived());
     fido_assert_free(&assertion);
     return result;
@@ -245,7 +245,7 @@ static void get_info(fido_dev_t *dev)
 
     forget();
     result = fido_dev_get_cbor_info(dev, info);
-    say("getInfo", result);
+    say("getInfo", fido_strerr(result));
     CHECK(result == FIDO_OK && arrived());
     CHECK(seen.written == 1 && seen.declared == 1 && seen.read == 2 && seen.answered > 57);
     CHECK(fido_cbor_info_versions_len(info) == 2);
@@ -260,6 +260,45 @@ static void get_info(fido_dev_t *dev)
     CHECK(fido_cbor_info_transports_len(info) == 1);
     CHECK(fido_cbor_info_algorithm_count(info) == 1 && fido_cbor_info_algorithm_cose(info, 0) == COSE_ES256);
     fido_cbor_info_free(&info);
+}
+
+/*
+ * A vendor command, for which libfido2 has no call: its packets are written on the channel that libfido2 has opened,
+ * through the same pipe, and the one packet of the reply is read there.
+ */
+static void ask_vendor(fido_dev_t *dev, unsigned char cmd, const char *payload, size_t len)
+{
+    void *handle = fido_dev_io_handle(dev);
+    unsigned char packet[PACKET];
+    size_t at = 0;
+
+    forget();
+    for (size_t index = 0; index == 0 || at < len; index++) {
+        unsigned char report[1 + PACKET] = {0, 0, 0, 0, 1};
+        size_t head = index == 0 ? 8 : 6, part = sizeof report - head;
+
+        report[5] = index == 0 ? 0x80 | cmd : (unsigned char)(index - 1);
+        if (index == 0) {
+            report[6] = (unsigned char)(len >> 8);
+            report[7] = (unsigned char)len;
+        }
+        if (part > len - at)
+            part = len - at;
+        memcpy(report + head, payload + at, part);
+        at += part;
+        CHECK(pipe_write(handle, report, sizeof report) == sizeof report);
+    }
+    CHECK(pipe_read(handle, packet, PACKET, 20000) == PACKET);
+    say("vendor command", "by hand");
+}
+
+/* the packet that was read last begins so, and has 0 behind it */
+static int was_read(const char *front, size_t len)
+{
+    unsigned char wanted[PACKET] = {0};
+
+    memcpy(wanted, front, len);
+    return memcmp(seen.last_read, wanted, PACKET) == 0;
 }
 
 /* ---- the parts */
@@ -364,6 +403,34 @@ static void is_cancelled(void)
     stop(dev);
 }
 
+/* command 40: a label is set, of 32 bytes too, and read; one of 57 bytes, in two packets, is not taken. 41 is not known */
+static void label(void)
+{
+    static const char long_label[] = "\1the key of gate 3, second drawer", too_long[58] = {1};
+    fido_dev_t *dev = start("now", "30000");
+
+    ask_vendor(dev, 0x40, "\0", 1);
+    CHECK(arrived() && was_read("\0\0\0\1\xc0\0\1\0", 8));
+    ask_vendor(dev, 0x40, "\1gate 3", 7);
+    CHECK(arrived() && was_read("\0\0\0\1\xc0\0\1\0", 8));
+    ask_vendor(dev, 0x40, "\0", 1);
+    CHECK(arrived() && was_read("\0\0\0\1\xc0\0\7\0gate 3", 14));
+
+    CHECK(sizeof long_label - 1 == 33);
+    ask_vendor(dev, 0x40, long_label, 33);
+    CHECK(arrived() && was_read("\0\0\0\1\xc0\0\1\0", 8));
+    ask_vendor(dev, 0x40, too_long, sizeof too_long);
+    CHECK(seen.written == 2 && arrived() && was_read("\0\0\0\1\xc0\0\1\2", 8));
+    ask_vendor(dev, 0x40, "\0", 1);
+    CHECK(arrived() && was_read("\0\0\0\1\xc0\0\41\0the key of gate 3, second drawer", 40));
+
+    ask_vendor(dev, 0x41, "\0", 1);
+    CHECK(!arrived() && was_read("\0\0\0\1\xbf\0\1\1", 8));
+    /* libfido2 goes on where it was */
+    get_info(dev);
+    stop(dev);
+}
+
 int main(int argc, char **argv)
 {
     if (argc < 3)
@@ -380,5 +447,6 @@ int main(int argc, char **argv)
     u2f();
     touches();
     is_cancelled();
+    label();
     return failures == 0 ? 0 : 1;
 }

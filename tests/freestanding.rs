@@ -26,7 +26,7 @@ extern "C" fn main() -> ! {
 
 fn is_welcomed() -> bool {
     let mut buffer = [0; 1024];
-    let Ok(mut device) = MainHid::new(&mut buffer, true) else {
+    let Ok(mut device) = MainHid::new(&mut buffer, true, &[]) else {
         return false;
     };
     let init = Message {

@@ -71,6 +71,17 @@ static void put(uint32_t cid, uint8_t cmd, size_t len, size_t index)
     CHECK(snjofrask_write_packet(cid, cmd, payload, len, index, packet, sizeof packet) == 0);
 }
 
+/* Set-up without vendor commands. No number is on the list, though the one where it begins would be refused. */
+static uint8_t device_new(snjofrask_device *device, size_t max, uint8_t u2f)
+{
+    return snjofrask_device_new(device, max, u2f, payload, 0);
+}
+
+static uint8_t transport_new(snjofrask_transport *transport, size_t max, uint8_t u2f)
+{
+    return snjofrask_transport_new(transport, max, u2f, payload, 0);
+}
+
 static snjofrask_outcome device_step(snjofrask_device *device, uint64_t time, uint8_t disabled)
 {
     return snjofrask_device_step(device, time, disabled, packet, sizeof packet, message, sizeof message, reply, sizeof reply);
@@ -192,7 +203,7 @@ static void device_refusals(snjofrask_device *device)
     CHECK(is_refused(device_step(device, SNJOFRASK_LAST_TIME_MS + 1, 0), SNJOFRASK_REFUSAL_TIME));
     CHECK(memcmp(device, &before, sizeof before) == 0);
     CHECK(all_are(message, sizeof message, 0xEE) && all_are(reply, sizeof reply, 0xEE));
-    CHECK(snjofrask_device_new(device, SNJOFRASK_LARGEST_PAYLOAD + 1, 1) == SNJOFRASK_REFUSAL_MAXIMUM);
+    CHECK(device_new(device, SNJOFRASK_LARGEST_PAYLOAD + 1, 1) == SNJOFRASK_REFUSAL_MAXIMUM);
     CHECK(memcmp(device, &before, sizeof before) == 0);
 }
 
@@ -209,9 +220,16 @@ static void device_of_others(void)
     CHECK(is_refused(device_step(&device, 0, 0), SNJOFRASK_REFUSAL_UNSOUND));
 
     memset(&device, 0, sizeof device);
-    CHECK(snjofrask_device_new(&none, 0, 0) == 0 && memcmp(&device, &none, sizeof none) == 0);
+    CHECK(device_new(&none, 0, 0) == 0 && memcmp(&device, &none, sizeof none) == 0);
     CHECK(is(device_step(&device, 0, 0), SNJOFRASK_KIND_REPLY, SNJOFRASK_CHANNEL_BROADCAST, SNJOFRASK_CMD_ERROR, 1));
     CHECK(reply[0] == SNJOFRASK_ERR_INVALID_LEN);
+
+    /* with any bits here it makes sense */
+    device.hid.vendor = ~(uint64_t)0;
+    device.hid.spare = ~(uint64_t)0;
+    CHECK(is(device_step(&device, 0, 0), SNJOFRASK_KIND_REPLY, SNJOFRASK_CHANNEL_BROADCAST, SNJOFRASK_CMD_ERROR, 1));
+    CHECK(snjofrask_is_winking(&device, 0) == 0 && snjofrask_is_locked(&device.hid, 0) == 0);
+    CHECK(device.hid.vendor == ~(uint64_t)0 && device.hid.spare == ~(uint64_t)0);
 }
 
 /* half a message stands in the buffer while the device is disabled, and goes on after */
@@ -219,7 +237,7 @@ static void disabled_writes_no_message(void)
 {
     snjofrask_device device;
 
-    CHECK(snjofrask_device_new(&device, SNJOFRASK_LARGEST_PAYLOAD, 1) == 0);
+    CHECK(device_new(&device, SNJOFRASK_LARGEST_PAYLOAD, 1) == 0);
     put(SNJOFRASK_CHANNEL_BROADCAST, SNJOFRASK_CMD_INIT, 8, 0);
     CHECK(is(device_step(&device, 0, 0), SNJOFRASK_KIND_REPLY, SNJOFRASK_CHANNEL_BROADCAST, SNJOFRASK_CMD_INIT, 17));
     put(1, SNJOFRASK_CMD_CBOR, 117, 0);
@@ -244,7 +262,7 @@ static void devices(void)
     snjofrask_device device;
 
     memset(&device, 0xEE, sizeof device);
-    CHECK(snjofrask_device_new(&device, SNJOFRASK_LARGEST_PAYLOAD, 1) == 0);
+    CHECK(device_new(&device, SNJOFRASK_LARGEST_PAYLOAD, 1) == 0);
     CHECK(device.hid.max == SNJOFRASK_LARGEST_PAYLOAD && device.hid.u2f != 0);
     CHECK(device.hid.allocated == 0 && device.hid.locked == 0 && device.hid.lock == 0 && device.hid.last == 0);
     CHECK(device.hid.assembler.len == 0 && device.wink == 0);
@@ -253,7 +271,7 @@ static void devices(void)
     device_refusals(&device);
 
     /* without U2F */
-    CHECK(snjofrask_device_new(&device, 57, 0) == 0 && device.hid.max == 57 && device.hid.u2f == 0);
+    CHECK(device_new(&device, 57, 0) == 0 && device.hid.max == 57 && device.hid.u2f == 0);
     put(SNJOFRASK_CHANNEL_BROADCAST, SNJOFRASK_CMD_INIT, 8, 0);
     CHECK(is(device_step(&device, 0, 0), SNJOFRASK_KIND_REPLY, SNJOFRASK_CHANNEL_BROADCAST, SNJOFRASK_CMD_INIT, 17));
     CHECK(reply[16] == (SNJOFRASK_CAPABILITY_WINK | SNJOFRASK_CAPABILITY_CBOR | SNJOFRASK_CAPABILITY_NMSG));
@@ -270,7 +288,7 @@ static void transports(void)
     snjofrask_transport transport;
     snjofrask_transport before;
 
-    CHECK(snjofrask_transport_new(&transport, 100, 0) == 0);
+    CHECK(transport_new(&transport, 100, 0) == 0);
     CHECK(transport.max == 100 && transport.u2f == 0 && transport.allocated == 0);
     CHECK(snjofrask_is_locked(&transport, 0) == 0);
     put(SNJOFRASK_CHANNEL_BROADCAST, SNJOFRASK_CMD_INIT, 8, 0);
@@ -288,9 +306,168 @@ static void transports(void)
     CHECK(is_refused(snjofrask_transport_step(&transport, 1, 0, packet, 65, message, 100, reply, 17), SNJOFRASK_REFUSAL_PACKET_SIZE));
     CHECK(is_refused(snjofrask_transport_step(&transport, 1, 0, packet, 64, message, 99, reply, 17), SNJOFRASK_REFUSAL_SHORT_BUFFER));
     CHECK(is_refused(transport_step(&transport, SNJOFRASK_LAST_TIME_MS + 1, 0), SNJOFRASK_REFUSAL_TIME));
-    CHECK(snjofrask_transport_new(&transport, SNJOFRASK_LARGEST_PAYLOAD + 1, 0) == SNJOFRASK_REFUSAL_MAXIMUM);
+    CHECK(transport_new(&transport, SNJOFRASK_LARGEST_PAYLOAD + 1, 0) == SNJOFRASK_REFUSAL_MAXIMUM);
     CHECK(memcmp(&transport, &before, sizeof before) == 0);
 }
+
+/* ---- vendor commands */
+
+static uint64_t vendor_bit(size_t number)
+{
+    return (uint64_t)1 << (number - SNJOFRASK_CMD_VENDOR_FIRST);
+}
+
+/* Whether set-up with a list gives a device and a transport just these bits for it. All else of them is as in any fresh one. */
+static int is_set_up(const uint8_t *vendor, size_t vendor_len, uint64_t bits)
+{
+    snjofrask_device fresh;
+    snjofrask_device device;
+    snjofrask_transport transport;
+
+    CHECK(device_new(&fresh, 57, 1) == 0 && fresh.hid.vendor == 0 && fresh.hid.spare == 0);
+    fresh.hid.vendor = bits;
+    memset(&device, 0xEE, sizeof device);
+    memset(&transport, 0xEE, sizeof transport);
+    return snjofrask_device_new(&device, 57, 1, vendor, vendor_len) == 0 && memcmp(&device, &fresh, sizeof fresh) == 0 &&
+           snjofrask_transport_new(&transport, 57, 1, vendor, vendor_len) == 0 &&
+           memcmp(&transport, &fresh.hid, sizeof fresh.hid) == 0;
+}
+
+/* Whether set-up of both is refused so, and leaves every byte of them as it came. */
+static int is_refused_set_up(size_t max, const uint8_t *vendor, size_t vendor_len, int refusal)
+{
+    snjofrask_device device;
+    snjofrask_transport transport;
+
+    memset(&device, 0xEE, sizeof device);
+    memset(&transport, 0xEE, sizeof transport);
+    return snjofrask_device_new(&device, max, 1, vendor, vendor_len) == refusal &&
+           snjofrask_transport_new(&transport, max, 1, vendor, vendor_len) == refusal &&
+           all_are((const uint8_t *)&device, sizeof device, 0xEE) && all_are((const uint8_t *)&transport, sizeof transport, 0xEE);
+}
+
+static void vendor_lists(void)
+{
+    static const uint8_t ends[] = {SNJOFRASK_CMD_VENDOR_LAST, SNJOFRASK_CMD_VENDOR_FIRST};
+    static const uint8_t twice[] = {65, 64, 65, 66, 66, 64};
+
+    CHECK(is_set_up(ends, 0, 0));
+    CHECK(is_set_up(ends, 1, 0x8000000000000000));
+    CHECK(is_set_up(ends + 1, 1, 1));
+    CHECK(is_set_up(ends, 2, 0x8000000000000001));
+    CHECK(is_set_up(twice, sizeof twice, 7));
+    for (size_t number = 0; number < 256; number++) {
+        const uint8_t one = (uint8_t)number;
+
+        if (number < 64 || number > 127)
+            CHECK(is_refused_set_up(57, &one, 1, SNJOFRASK_REFUSAL_VENDOR));
+        else
+            CHECK(is_set_up(&one, 1, vendor_bit(number)));
+    }
+}
+
+/* A wrong number is refused wherever it stands in the list, but not behind it. A wrong maximum is told first. */
+static void wrong_vendor_lists(void)
+{
+    static const uint8_t wrong[] = {0, 63, 128, 255};
+    uint8_t all[64];
+
+    for (uint8_t i = 0; i < sizeof all; i++)
+        all[i] = (uint8_t)(64 + i);
+    CHECK(is_set_up(all, sizeof all, ~(uint64_t)0));
+    CHECK(is_refused_set_up(SNJOFRASK_LARGEST_PAYLOAD + 1, all, sizeof all, SNJOFRASK_REFUSAL_MAXIMUM));
+    for (size_t at = 0; at < sizeof all; at++) {
+        const uint8_t right = all[at];
+
+        for (size_t i = 0; i < sizeof wrong; i++) {
+            all[at] = wrong[i];
+            CHECK(is_refused_set_up(SNJOFRASK_LARGEST_PAYLOAD, all, sizeof all, SNJOFRASK_REFUSAL_VENDOR));
+            CHECK(is_refused_set_up(SNJOFRASK_LARGEST_PAYLOAD + 1, all, sizeof all, SNJOFRASK_REFUSAL_MAXIMUM));
+            CHECK(is_set_up(all, at, vendor_bit(right) - 1));
+        }
+        all[at] = right;
+    }
+}
+
+/* The answer to a message on channel 1, whose packets but the last get nothing. */
+static snjofrask_outcome device_answer(snjofrask_device *device, uint8_t cmd, size_t len)
+{
+    const size_t last = snjofrask_packet_count(len).len - 1;
+
+    memset(message, 0xEE, sizeof message);
+    memset(reply, 0xEE, sizeof reply);
+    for (size_t index = 0; index < last; index++) {
+        put(1, cmd, len, index);
+        CHECK(is(device_step(device, 0, 0), SNJOFRASK_KIND_NOTHING, 0, 0, 0));
+    }
+    put(1, cmd, len, last);
+    return device_step(device, 0, 0);
+}
+
+static snjofrask_outcome transport_answer(snjofrask_transport *transport, uint8_t cmd, size_t len)
+{
+    const size_t last = snjofrask_packet_count(len).len - 1;
+
+    memset(message, 0xEE, sizeof message);
+    memset(reply, 0xEE, sizeof reply);
+    for (size_t index = 0; index < last; index++) {
+        put(1, cmd, len, index);
+        CHECK(is(transport_step(transport, 0, 0), SNJOFRASK_KIND_NOTHING, 0, 0, 0));
+    }
+    put(1, cmd, len, last);
+    return transport_step(transport, 0, 0);
+}
+
+/* Whether it hands the message out as it was sent. */
+static int hands_out(snjofrask_outcome answer, uint8_t cmd, size_t len)
+{
+    return is(answer, SNJOFRASK_KIND_MESSAGE, 1, cmd, len) && memcmp(message, payload, len) == 0 &&
+           all_are(message + len, sizeof message - len, 0xEE) && all_are(reply, sizeof reply, 0xEE);
+}
+
+/* Whether it says that there is no such command. */
+static int is_no_command(snjofrask_outcome answer)
+{
+    return is(answer, SNJOFRASK_KIND_REPLY, 1, SNJOFRASK_CMD_ERROR, 1) && reply[0] == SNJOFRASK_ERR_INVALID_CMD &&
+           all_are(reply + 1, sizeof reply - 1, 0xEE);
+}
+
+/* A device and a transport that know the first and the last. After set-up the list may be written over. */
+static void vendor_messages(void)
+{
+    static const size_t lengths[] = {0, 1, 57, 58, SNJOFRASK_LARGEST_PAYLOAD};
+    const uint64_t spare = 0x1122334455667788;
+    uint8_t vendor[] = {127, 64};
+    snjofrask_device device;
+    snjofrask_transport transport;
+
+    CHECK(snjofrask_device_new(&device, SNJOFRASK_LARGEST_PAYLOAD, 0, vendor, sizeof vendor) == 0);
+    CHECK(snjofrask_transport_new(&transport, SNJOFRASK_LARGEST_PAYLOAD, 0, vendor, sizeof vendor) == 0);
+    memset(vendor, 65, sizeof vendor);
+    device.hid.spare = spare;
+    transport.spare = spare;
+    put(SNJOFRASK_CHANNEL_BROADCAST, SNJOFRASK_CMD_INIT, 8, 0);
+    CHECK(device_step(&device, 0, 0).cmd == SNJOFRASK_CMD_INIT && transport_step(&transport, 0, 0).cmd == SNJOFRASK_CMD_INIT);
+    for (size_t i = 0; i < sizeof lengths / sizeof lengths[0]; i++)
+        for (uint8_t cmd = 62; cmd < 128; cmd++) {
+            if (cmd == 64 || cmd == 127) {
+                CHECK(hands_out(device_answer(&device, cmd, lengths[i]), cmd, lengths[i]));
+                CHECK(hands_out(transport_answer(&transport, cmd, lengths[i]), cmd, lengths[i]));
+            } else {
+                CHECK(is_no_command(device_answer(&device, cmd, lengths[i])));
+                CHECK(is_no_command(transport_answer(&transport, cmd, lengths[i])));
+            }
+        }
+    CHECK(device.hid.vendor == 0x8000000000000001 && transport.vendor == 0x8000000000000001);
+    CHECK(device.hid.spare == spare && transport.spare == spare);
+
+    /* while it works on one it is disabled, and tells so whatever the command */
+    put(1, 64, 1, 0);
+    CHECK(is(device_step(&device, 0, 1), SNJOFRASK_KIND_REPLY, 1, SNJOFRASK_CMD_ERROR, 1));
+    CHECK(reply[0] == SNJOFRASK_ERR_CHANNEL_BUSY);
+}
+
+/* ---- a host */
 
 static snjofrask_outcome host_read(snjofrask_collection *collection, size_t buffer_len)
 {
@@ -441,7 +618,7 @@ static void lending_to_a_device(void)
 {
     snjofrask_device device;
 
-    CHECK(snjofrask_device_new(&device, LENT_SIZE, 1) == 0);
+    CHECK(device_new(&device, LENT_SIZE, 1) == 0);
     for (int channel = 1; channel <= 2; channel++) {
         put(SNJOFRASK_CHANNEL_BROADCAST, SNJOFRASK_CMD_INIT, 8, 0);
         CHECK(is(lent_step(&device, 0, 0), SNJOFRASK_KIND_REPLY, SNJOFRASK_CHANNEL_BROADCAST, SNJOFRASK_CMD_INIT, 17));
@@ -489,7 +666,8 @@ static void lending_to_a_host(void)
     CHECK(!returns(&collection, 58, 1));
 }
 
-/* A length's highest bit, whatever its width. No memory is so long, so this is more than is promised: a refusal looks at nothing. */
+/* A length's highest bit, whatever its width. No memory is so long, so this is more than is promised: a refusal looks at nothing, or of a
+   list at no more than the wrong number. */
 #define HIGH (~((size_t)-1 >> 1))
 
 /* Every bit of a length or an index counts: whoever drops some takes these for others. */
@@ -520,11 +698,11 @@ static void lengths_to_a_state(void)
     snjofrask_collection collection;
 
     memset(&collection, 0, sizeof collection);
-    CHECK(snjofrask_device_new(&device, HIGH + 57, 0) == SNJOFRASK_REFUSAL_MAXIMUM);
-    CHECK(snjofrask_transport_new(&transport, HIGH + 57, 0) == SNJOFRASK_REFUSAL_MAXIMUM);
-    CHECK(snjofrask_device_new(&device, 65536 + 57, 0) == SNJOFRASK_REFUSAL_MAXIMUM);
-    CHECK(snjofrask_transport_new(&transport, 65536 + 57, 0) == SNJOFRASK_REFUSAL_MAXIMUM);
-    CHECK(snjofrask_device_new(&device, 57, 0) == 0 && snjofrask_transport_new(&transport, 57, 0) == 0);
+    CHECK(device_new(&device, HIGH + 57, 0) == SNJOFRASK_REFUSAL_MAXIMUM);
+    CHECK(transport_new(&transport, HIGH + 57, 0) == SNJOFRASK_REFUSAL_MAXIMUM);
+    CHECK(device_new(&device, 65536 + 57, 0) == SNJOFRASK_REFUSAL_MAXIMUM);
+    CHECK(transport_new(&transport, 65536 + 57, 0) == SNJOFRASK_REFUSAL_MAXIMUM);
+    CHECK(device_new(&device, 57, 0) == 0 && transport_new(&transport, 57, 0) == 0);
     put(SNJOFRASK_CHANNEL_BROADCAST, SNJOFRASK_CMD_INIT, 8, 0);
     CHECK(is_refused(snjofrask_device_step(&device, 0, 0, packet, HIGH + 64, message, 57, reply, 17), SNJOFRASK_REFUSAL_PACKET_SIZE));
     CHECK(is_refused(snjofrask_transport_step(&transport, 0, 0, packet, HIGH + 64, message, 57, reply, 17), SNJOFRASK_REFUSAL_PACKET_SIZE));
@@ -538,6 +716,13 @@ static void lengths_to_a_state(void)
              SNJOFRASK_CHANNEL_BROADCAST, SNJOFRASK_CMD_INIT, 17));
     put(1, SNJOFRASK_CMD_PING, 8, 0);
     CHECK(is(snjofrask_host_read(&collection, 1, packet, 64, long_message, 65536), SNJOFRASK_KIND_COLLECTED, 0, SNJOFRASK_CMD_PING, 8));
+    /* and so is a list, whose last number is another */
+    memset(long_message, 127, sizeof long_message);
+    long_message[255] = 64;
+    long_message[65535] = 65;
+    CHECK(is_set_up(long_message, 256, 0x8000000000000001) && is_set_up(long_message, 65536, 0x8000000000000003));
+    long_message[0] = 63;
+    CHECK(is_refused_set_up(57, long_message, HIGH, SNJOFRASK_REFUSAL_VENDOR));
 }
 
 /* A flag is set by any bit, and a time counts beyond 32 of them. */
@@ -547,8 +732,8 @@ static void flags_and_times(void)
     snjofrask_device device;
     snjofrask_transport transport;
 
-    CHECK(snjofrask_device_new(&device, 57, 0x80) == 0 && device.hid.u2f == 1);
-    CHECK(snjofrask_transport_new(&transport, 57, 0x80) == 0 && transport.u2f == 1);
+    CHECK(device_new(&device, 57, 0x80) == 0 && device.hid.u2f == 1);
+    CHECK(transport_new(&transport, 57, 0x80) == 0 && transport.u2f == 1);
     put(SNJOFRASK_CHANNEL_BROADCAST, SNJOFRASK_CMD_INIT, 8, 0);
     CHECK(is(device_step(&device, 0, 0x80), SNJOFRASK_KIND_REPLY, SNJOFRASK_CHANNEL_BROADCAST, SNJOFRASK_CMD_ERROR, 1));
     CHECK(is(transport_step(&transport, 0, 0x80), SNJOFRASK_KIND_REPLY, SNJOFRASK_CHANNEL_BROADCAST, SNJOFRASK_CMD_ERROR, 1));
@@ -585,6 +770,9 @@ int main(void)
     device_of_others();
     disabled_writes_no_message();
     transports();
+    vendor_lists();
+    wrong_vendor_lists();
+    vendor_messages();
     hosts();
     init_replies();
     lending_to_a_device();

@@ -33,6 +33,16 @@ static const uint8_t u2f_version[] = {'U', '2', 'F', '_', 'V', '2', 0x90, 0x00};
 static const uint8_t ins_not_supported[] = {0x6D, 0x00};
 static const uint8_t cla_not_supported[] = {0x6E, 0x00};
 
+/* the label's own: what is asked, and why it isn't done */
+#define READ_LABEL 0x00
+#define SET_LABEL 0x01
+static const uint8_t no_such_operation[] = {0x01};
+static const uint8_t wrong_length[] = {0x02};
+
+/* the answer to a host that reads the label: status 0, and the label, which is empty at first and lasts until the device ends */
+static uint8_t labelled[1 + 32] = {0x00};
+static size_t labelled_len = 1;
+
 const struct authenticator_answer authenticator_cancelled = {keepalive_cancel, sizeof keepalive_cancel, false};
 const struct authenticator_answer authenticator_timed_out = {user_action_timeout, sizeof user_action_timeout, false};
 
@@ -78,9 +88,34 @@ static struct authenticator_answer ask_ctap2(const uint8_t *request, size_t len)
     return at_once(invalid_command, sizeof invalid_command);
 }
 
+static struct authenticator_answer set_label(const uint8_t *label, size_t len)
+{
+    if (len > sizeof labelled - 1)
+        return at_once(wrong_length, sizeof wrong_length);
+    for (size_t i = 0; i < len; i++)
+        labelled[1 + i] = label[i];
+    labelled_len = 1 + len;
+    return at_once(ok, sizeof ok);
+}
+
+static struct authenticator_answer ask_label(const uint8_t *request, size_t len)
+{
+    if (len == 0)
+        return at_once(wrong_length, sizeof wrong_length);
+    if (request[0] == SET_LABEL)
+        return set_label(request + 1, len - 1);
+    if (request[0] != READ_LABEL)
+        return at_once(no_such_operation, sizeof no_such_operation);
+    if (len > 1)
+        return at_once(wrong_length, sizeof wrong_length);
+    return at_once(labelled, labelled_len);
+}
+
 struct authenticator_answer authenticator_ask(uint8_t cmd, const uint8_t *payload, size_t len)
 {
     if (cmd == SNJOFRASK_CMD_MSG)
         return ask_u2f(payload, len);
+    if (cmd == AUTHENTICATOR_CMD_LABEL)
+        return ask_label(payload, len);
     return ask_ctap2(payload, len);
 }

@@ -43,7 +43,7 @@ uint64_t board_touch_timeout_ms(void);
 /* Switches the LED on or off. It may be as asked already. */
 void board_set_led(bool on);
 
-/* Is shown each MSG and CBOR before it is answered, for a debug port. It may do nothing. */
+/* Is shown each MSG, CBOR and vendor command before it is answered, for a debug port. It may do nothing. */
 void board_log_request(uint32_t cid, uint8_t cmd, const uint8_t *payload, size_t len);
 
 /* Is told of a refusal that no right program meets, with the call's name. Firmware resets; it does not return. */

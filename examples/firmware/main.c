@@ -194,8 +194,10 @@ static bool serve_packet(void)
 
 int main(void)
 {
+    static const uint8_t vendor[] = {AUTHENTICATOR_CMD_LABEL};
+
     board_start();
-    expect_no_refusal("snjofrask_device_new", snjofrask_device_new(&device, sizeof message, WITH_U2F));
+    expect_no_refusal("snjofrask_device_new", snjofrask_device_new(&device, sizeof message, WITH_U2F, vendor, sizeof vendor));
     for (;;) {
         const enum board_event event = take_packet(board_now_ms() + TICK_MS);
 

@@ -183,13 +183,19 @@ static bool read_input(const uint8_t *line, size_t len, struct input *input)
     return read_hex(line + digits + 3, len - digits - 3, input->packet);
 }
 
+/* Without vendor commands: the list has no number, wherever it begins. */
+static uint8_t make_device(size_t max, uint8_t u2f)
+{
+    return snjofrask_device_new(&device, max, u2f, message, 0);
+}
+
 /* crates/replay's: the time is the maximum, the flag U2F, and the packet begins with the count of channels. It prints nothing. */
 static void set_up(const struct input *input)
 {
     const uint8_t *count = input->packet;
     const size_t max = input->time > SNJOFRASK_LARGEST_PAYLOAD ? SNJOFRASK_LARGEST_PAYLOAD + 1 : (size_t)input->time;
 
-    if (snjofrask_device_new(&device, max, input->disabled) == 0)
+    if (make_device(max, input->disabled) == 0)
         device.hid.allocated = (uint32_t)count[0] << 24 | (uint32_t)count[1] << 16 | (uint32_t)count[2] << 8 | count[3];
 }
 
@@ -232,7 +238,7 @@ int main(void)
 {
     static uint8_t input[512];
 
-    if (snjofrask_device_new(&device, sizeof message, WITH_U2F) != 0)
+    if (make_device(sizeof message, WITH_U2F) != 0)
         return 1;
     for (;;) {
         const size_t len = board_read(input, sizeof input);

@@ -13,7 +13,8 @@ pub(crate) const SHORT_REPLY_SIZE: usize = 17;
 pub enum Parsed<'a> {
     /// Nothing is to be sent.
     Nothing,
-    /// MSG, CBOR or WINK for the caller to answer, on the same channel with the same command or with an error.
+    /// MSG, CBOR, WINK or a vendor command that was listed, for the caller to answer, on the same channel with the same
+    /// command or with an error.
     Message(Message<'a>),
     /// To be sent, by [`CtapHid::split_message`].
     Reply(Message<'a>),
@@ -39,20 +40,23 @@ impl<'b> CtapHid<'b> {
     pub const INTERNAL_ERROR: u8 = 0xF2;
 
     /// A fresh transport. Messages are put together in `message`, and its length is the largest that is taken.
-    /// It reports WINK and CBOR, and without U2F (`ctap1`) that it has no MSG.
+    /// It reports WINK and CBOR, and without U2F (`ctap1`) that it has no MSG. `vendor` has the numbers of the vendor
+    /// commands that it knows, in any order; one may stand there twice.
     ///
-    /// A buffer of more than 7,609 bytes is refused:
+    /// A buffer of more than 7,609 bytes is refused, and then a number that isn't 64 to 127:
     ///
     /// ```
     /// use snjofrask::{CtapHid, Refusal};
     ///
     /// let mut buffer = [0; 7610];
-    /// assert_eq!(CtapHid::new(&mut buffer, true).err(), Some(Refusal::Maximum));
-    /// assert!(CtapHid::new(&mut buffer[..7609], true).is_ok());
+    /// assert_eq!(CtapHid::new(&mut buffer, true, &[63]).err(), Some(Refusal::Maximum));
+    /// assert_eq!(CtapHid::new(&mut buffer[..7609], true, &[63]).err(), Some(Refusal::Vendor));
+    /// assert!(CtapHid::new(&mut buffer[..7609], true, &[127, 64, 127]).is_ok());
+    /// assert!(CtapHid::new(&mut buffer[..7609], true, &[]).is_ok());
     /// ```
-    pub fn new(message: &'b mut [u8], ctap1: bool) -> Result<CtapHid<'b>, Refusal> {
+    pub fn new(message: &'b mut [u8], ctap1: bool, vendor: &[u8]) -> Result<CtapHid<'b>, Refusal> {
         let mut state = raw::CtapHid::default();
-        match raw::transport_new(&mut state, message.len(), ctap1) {
+        match raw::transport_new(&mut state, message.len(), ctap1, vendor) {
             0 => Ok(CtapHid {
                 state,
                 message,
@@ -69,7 +73,7 @@ impl<'b> CtapHid<'b> {
     /// use snjofrask::{CHANNEL_BROADCAST, CtapHid, CtapHidCommand, Message, Parsed, Refusal};
     ///
     /// let mut buffer = [0; 100];
-    /// let mut hid = CtapHid::new(&mut buffer, true)?;
+    /// let mut hid = CtapHid::new(&mut buffer, true, &[0x40])?;
     /// let mut send = |time_ms, cid, cmd, payload| {
     ///     let packet = CtapHid::split_message(Message { cid, cmd, payload }).next().unwrap();
     ///     hid.parse_packet(time_ms, &packet, false).map(|parsed| match parsed {
@@ -86,6 +90,9 @@ impl<'b> CtapHid<'b> {
     /// assert_eq!(send(5, one, CtapHidCommand::Ping, &[7])?, Some((false, CtapHidCommand::Ping, vec![7])));
     /// assert_eq!(send(5, one, CtapHidCommand::Wink, &[])?, Some((true, CtapHidCommand::Wink, vec![])));
     /// assert_eq!(send(5, one, CtapHidCommand::Cancel, &[])?, None);
+    /// let listed = CtapHidCommand::from(0x40);
+    /// assert_eq!(send(5, one, listed, &[7])?, Some((true, listed, vec![7])));
+    /// assert_eq!(send(5, one, CtapHidCommand::from(0x41), &[7])?, Some((false, CtapHidCommand::Error, vec![1])));
     /// assert_eq!(send(5, [0, 0, 0, 2], CtapHidCommand::Ping, &[])?, Some((false, CtapHidCommand::Error, vec![0x0B])));
     ///
     /// // time doesn't go back
@@ -115,7 +122,7 @@ impl<'b> CtapHid<'b> {
     /// use snjofrask::{CHANNEL_BROADCAST, CtapHid, CtapHidCommand, Message, Refusal};
     ///
     /// let mut buffer = [0; 100];
-    /// let mut hid = CtapHid::new(&mut buffer, true)?;
+    /// let mut hid = CtapHid::new(&mut buffer, true, &[])?;
     /// let lock = Message { cid: [0, 0, 0, 1], cmd: CtapHidCommand::Lock, payload: &[2] };
     /// let init = Message { cid: CHANNEL_BROADCAST, cmd: CtapHidCommand::Init, payload: &[0; 8] };
     /// for message in [init, lock] {

@@ -53,7 +53,7 @@ impl<'b> Collection<'b> {
     /// assert_eq!(collection.take_packet(cid, &packets.next().unwrap()), Ok(Progress::Waiting));
     /// assert_eq!(collection.take_packet(cid, &busy), Ok(Progress::Ignored));
     /// assert_eq!(collection.take_packet(cid, &keepalive), Err(Refusal::Sequence));
-    /// let reply = Progress::Reply { cmd: CtapHidCommand::Cbor as u8, payload: &payload };
+    /// let reply = Progress::Reply { cmd: CtapHidCommand::Cbor.number(), payload: &payload };
     /// assert_eq!(collection.take_packet(cid, &packets.next().unwrap()), Ok(reply));
     /// ```
     pub fn take_packet(
@@ -126,13 +126,13 @@ pub struct InitReply<'a> {
 /// use snjofrask::{CtapHidCommand, Refusal, init_reply};
 ///
 /// let payload = [1, 2, 3, 4, 5, 6, 7, 8, 0, 0, 1, 0, 2, 1, 0, 0, 5, 0xAB, 0xCD];
-/// let reply = init_reply(CtapHidCommand::Init as u8, &payload)?;
+/// let reply = init_reply(CtapHidCommand::Init.number(), &payload)?;
 /// assert_eq!(reply.nonce, payload[..8]);
 /// assert_eq!((reply.cid, reply.protocol, reply.capabilities), ([0, 0, 1, 0], 2, 5));
 /// assert_eq!((reply.major, reply.minor, reply.build), (1, 0, 0));
 /// assert_eq!(reply.rest, [0xAB, 0xCD]);
-/// assert_eq!(init_reply(CtapHidCommand::Ping as u8, &payload), Err(Refusal::NotInit));
-/// assert_eq!(init_reply(CtapHidCommand::Init as u8, &payload[..16]), Err(Refusal::NotInit));
+/// assert_eq!(init_reply(CtapHidCommand::Ping.number(), &payload), Err(Refusal::NotInit));
+/// assert_eq!(init_reply(CtapHidCommand::Init.number(), &payload[..16]), Err(Refusal::NotInit));
 /// # Ok::<(), Refusal>(())
 /// ```
 pub fn init_reply(cmd: u8, payload: &[u8]) -> Result<InitReply<'_>, Refusal> {

@@ -7,7 +7,8 @@
 //! - Time is an argument: whole milliseconds from any beginning, which never go back.
 //! - Payloads are slices, of the buffer that the caller lent at set-up or of the caller's own.
 //! - A call that makes no sense is refused: [`Refusal`].
-//! - MSG and CBOR come back to the caller, who sends the whole answer by [`CtapHid::split_message`].
+//! - MSG and CBOR come back to the caller, who sends the whole answer by [`CtapHid::split_message`]. So do the vendor
+//!   commands that are listed at set-up; OpenSK has none.
 //!
 //! A device:
 //!
@@ -15,7 +16,7 @@
 //! use snjofrask::{CtapHid, CtapHidCommand, MainHid, Message, Processed};
 //!
 //! let mut buffer = [0; 1024];
-//! let mut device = MainHid::new(&mut buffer, true)?;
+//! let mut device = MainHid::new(&mut buffer, true, &[])?;
 //! let mut sent = Vec::new();
 //!
 //! // a host asks for a channel, and then what this device is: CBOR with the one byte 4
@@ -72,7 +73,7 @@ pub use host::{Collection, InitReply, Progress, init_reply};
 pub use main_hid::{MainHid, Processed};
 pub use message::{
     CHANNEL_BROADCAST, ChannelID, CtapHidCommand, CtapHidError, HidPacket, KeepaliveStatus,
-    Message, ProcessedPacket, Refusal,
+    Message, ProcessedPacket, Refusal, VendorCommand,
 };
 pub use send::HidPacketIterator;
 

@@ -9,12 +9,12 @@ use crate::send::HidPacketIterator;
 pub enum Processed<'a> {
     /// Packets to be sent, or none.
     Packets(HidPacketIterator<'a>),
-    /// MSG or CBOR for the caller to answer, on the same channel with the same command, by
-    /// [`CtapHid::split_message`]. The payload stands in the device's buffer until the next packet.
+    /// MSG, CBOR or a vendor command that was listed, for the caller to answer, on the same channel with the same
+    /// command, by [`CtapHid::split_message`]. The payload stands in the device's buffer until the next packet.
     Request(Message<'a>),
 }
 
-/// A device: all of CTAPHID but what MSG and CBOR mean.
+/// A device: all of CTAPHID but what MSG, CBOR and vendor commands mean.
 #[derive(Debug)]
 pub struct MainHid<'b> {
     state: raw::MainHid,
@@ -24,11 +24,33 @@ pub struct MainHid<'b> {
 
 impl<'b> MainHid<'b> {
     /// A fresh device. Messages are put together in `message`, and its length is the largest that is taken. Without
-    /// U2F (`ctap1`) it answers MSG itself, with an error.
-    /// A buffer of more than 7,609 bytes is refused.
-    pub fn new(message: &'b mut [u8], ctap1: bool) -> Result<MainHid<'b>, Refusal> {
+    /// U2F (`ctap1`) it answers MSG itself, with an error. `vendor` has the numbers of the vendor commands that it knows,
+    /// in any order; one may stand there twice.
+    /// A buffer of more than 7,609 bytes is refused, and then a number that isn't 64 to 127.
+    ///
+    /// ```
+    /// use snjofrask::{CHANNEL_BROADCAST, CtapHid, CtapHidCommand, MainHid, Message, Processed, Refusal};
+    ///
+    /// let mut buffer = [0; 100];
+    /// let mut device = MainHid::new(&mut buffer, true, &[0x40])?;
+    /// let init = Message { cid: CHANNEL_BROADCAST, cmd: CtapHidCommand::Init, payload: &[0; 8] };
+    /// let label = Message { cid: [0, 0, 0, 1], cmd: CtapHidCommand::from(0x40), payload: b"gate 3" };
+    /// let other = Message { cmd: CtapHidCommand::from(0x41), ..label };
+    /// let mut handed = Vec::new();
+    /// let mut sent = Vec::new();
+    /// for packet in [init, label, other].into_iter().flat_map(CtapHid::split_message) {
+    ///     match device.process_hid_packet(0, &packet, false)? {
+    ///         Processed::Packets(packets) => sent.extend(packets),
+    ///         Processed::Request(request) => handed.push((request.cmd.number(), request.payload.to_vec())),
+    ///     }
+    /// }
+    /// assert_eq!(handed, [(0x40, b"gate 3".to_vec())]);
+    /// assert_eq!(sent[1][..8], [0, 0, 0, 1, 0xBF, 0, 1, 1]);
+    /// # Ok::<(), Refusal>(())
+    /// ```
+    pub fn new(message: &'b mut [u8], ctap1: bool, vendor: &[u8]) -> Result<MainHid<'b>, Refusal> {
         let mut state = raw::MainHid::default();
-        match raw::device_new(&mut state, message.len(), ctap1) {
+        match raw::device_new(&mut state, message.len(), ctap1, vendor) {
             0 => Ok(MainHid {
                 state,
                 message,
@@ -46,7 +68,7 @@ impl<'b> MainHid<'b> {
     /// use snjofrask::{CHANNEL_BROADCAST, CtapHid, CtapHidCommand, MainHid, Message, Processed, Refusal};
     ///
     /// let mut buffer = [0; 100];
-    /// let mut device = MainHid::new(&mut buffer, false)?;
+    /// let mut device = MainHid::new(&mut buffer, false, &[])?;
     /// let init = Message { cid: CHANNEL_BROADCAST, cmd: CtapHidCommand::Init, payload: &[0; 8] };
     /// let ping = Message { cid: [0, 0, 0, 1], cmd: CtapHidCommand::Ping, payload: &[0; 58] };
     /// let mut sent = Vec::new();
@@ -91,7 +113,7 @@ impl<'b> MainHid<'b> {
     /// use snjofrask::{CHANNEL_BROADCAST, CtapHid, CtapHidCommand, MainHid, Message, Refusal};
     ///
     /// let mut buffer = [0; 100];
-    /// let mut device = MainHid::new(&mut buffer, true)?;
+    /// let mut device = MainHid::new(&mut buffer, true, &[])?;
     /// let init = Message { cid: CHANNEL_BROADCAST, cmd: CtapHidCommand::Init, payload: &[0; 8] };
     /// let wink = Message { cid: [0, 0, 0, 1], cmd: CtapHidCommand::Wink, payload: &[] };
     /// for packet in [init, wink].into_iter().flat_map(CtapHid::split_message) {

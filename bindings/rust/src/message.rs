@@ -13,23 +13,55 @@ pub const CHANNEL_BROADCAST: ChannelID = [0xFF; 4];
 #[derive(Clone, Copy, Debug, PartialEq, Eq)]
 pub enum CtapHidCommand {
     /// Echoed.
-    Ping = 0x01,
+    Ping,
     /// U2F.
-    Msg = 0x03,
+    Msg,
     /// Keeps other channels out for some seconds.
-    Lock = 0x04,
+    Lock,
     /// Asks for a channel, or gets one in step again.
-    Init = 0x06,
+    Init,
     /// Asks for a visible sign.
-    Wink = 0x08,
+    Wink,
     /// CTAP2.
-    Cbor = 0x10,
+    Cbor,
     /// Gives a request up.
-    Cancel = 0x11,
+    Cancel,
     /// Not done yet.
-    Keepalive = 0x3B,
-    /// An error, and any number that is not listed.
-    Error = 0x3F,
+    Keepalive,
+    /// An error, and any other number.
+    Error,
+    /// One of the vendor's. A device knows those that it was set up with.
+    Vendor(VendorCommand),
+}
+
+impl CtapHidCommand {
+    /// The lowest number of a vendor command.
+    pub const VENDOR_FIRST: u8 = 0x40;
+    /// The highest.
+    pub const VENDOR_LAST: u8 = 0x7F;
+
+    /// Its number, below 128.
+    ///
+    /// ```
+    /// use snjofrask::CtapHidCommand;
+    ///
+    /// assert_eq!(CtapHidCommand::Cbor.number(), 0x10);
+    /// assert_eq!(CtapHidCommand::from(0x40).number(), 0x40);
+    /// ```
+    pub const fn number(self) -> u8 {
+        match self {
+            CtapHidCommand::Ping => 0x01,
+            CtapHidCommand::Msg => 0x03,
+            CtapHidCommand::Lock => 0x04,
+            CtapHidCommand::Init => 0x06,
+            CtapHidCommand::Wink => 0x08,
+            CtapHidCommand::Cbor => 0x10,
+            CtapHidCommand::Cancel => 0x11,
+            CtapHidCommand::Keepalive => 0x3B,
+            CtapHidCommand::Error => 0x3F,
+            CtapHidCommand::Vendor(vendor) => vendor.number(),
+        }
+    }
 }
 
 impl From<u8> for CtapHidCommand {
@@ -43,8 +75,41 @@ impl From<u8> for CtapHidCommand {
             0x10 => CtapHidCommand::Cbor,
             0x11 => CtapHidCommand::Cancel,
             0x3B => CtapHidCommand::Keepalive,
-            _ => CtapHidCommand::Error,
+            _ => match VendorCommand::new(cmd) {
+                Some(vendor) => CtapHidCommand::Vendor(vendor),
+                None => CtapHidCommand::Error,
+            },
         }
+    }
+}
+
+/// A vendor command, by its number. It has no other, so no message's command is above 127.
+#[derive(Clone, Copy, Debug, PartialEq, Eq)]
+pub struct VendorCommand(u8);
+
+impl VendorCommand {
+    /// The one with a number from [`CtapHidCommand::VENDOR_FIRST`] to [`CtapHidCommand::VENDOR_LAST`], or `None`.
+    ///
+    /// ```
+    /// use snjofrask::{CtapHidCommand, VendorCommand};
+    ///
+    /// const LABEL: VendorCommand = VendorCommand::new(0x40).unwrap();
+    /// assert_eq!(CtapHidCommand::from(0x40), CtapHidCommand::Vendor(LABEL));
+    /// assert_eq!(VendorCommand::new(0x3F), None);
+    /// assert_eq!(VendorCommand::new(0x80), None);
+    /// ```
+    pub const fn new(number: u8) -> Option<VendorCommand> {
+        match number {
+            CtapHidCommand::VENDOR_FIRST..=CtapHidCommand::VENDOR_LAST => {
+                Some(VendorCommand(number))
+            }
+            _ => None,
+        }
+    }
+
+    /// Its number.
+    pub const fn number(self) -> u8 {
+        self.0
     }
 }
 
@@ -159,6 +224,9 @@ pub enum Refusal {
     NotInit = 11,
     /// A command above 127. No call of this crate can have one.
     Command = 12,
+    /// Set-up with a vendor command below [`VENDOR_FIRST`](CtapHidCommand::VENDOR_FIRST) or above
+    /// [`VENDOR_LAST`](CtapHidCommand::VENDOR_LAST).
+    Vendor = 13,
 }
 
 impl Refusal {
@@ -176,6 +244,7 @@ impl Refusal {
             10 => Refusal::LongReply,
             11 => Refusal::NotInit,
             12 => Refusal::Command,
+            13 => Refusal::Vendor,
             _ => Refusal::Unsound,
         }
     }
@@ -196,6 +265,7 @@ impl core::fmt::Display for Refusal {
             Refusal::LongReply => "a reply that the buffer can't hold",
             Refusal::NotInit => "not a reply to INIT",
             Refusal::Command => "a command above 127",
+            Refusal::Vendor => "a vendor command that isn't 64 to 127",
         })
     }
 }

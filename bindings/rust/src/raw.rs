@@ -20,10 +20,12 @@ pub struct CtapHid {
     pub assembler: MessageAssembler,
     pub lock: u64,
     pub last: u64,
+    pub vendor: u64,
     pub allocated: u32,
     pub locked: u32,
     pub max: u32,
     pub u2f: u32,
+    pub spare: u64,
 }
 
 #[repr(C)]
@@ -67,8 +69,8 @@ pub struct InitOutcome {
     pub nonce: [u8; 8],
 }
 
-const _: () = assert!(size_of::<MessageAssembler>() == 24 && size_of::<CtapHid>() == 56);
-const _: () = assert!(size_of::<MainHid>() == 64 && size_of::<Collection>() == 6);
+const _: () = assert!(size_of::<MessageAssembler>() == 24 && size_of::<CtapHid>() == 72);
+const _: () = assert!(size_of::<MainHid>() == 80 && size_of::<Collection>() == 6);
 const _: () = assert!(size_of::<Outcome>() == size_of::<usize>() + 8);
 const _: () = assert!(size_of::<InitOutcome>() == 20);
 const _: () = assert!(align_of::<CtapHid>() == 8 && align_of::<MainHid>() == 8);
@@ -90,7 +92,13 @@ pub mod kind {
 
 #[link(name = "snjofrask", kind = "static")]
 unsafe extern "C" {
-    fn snjofrask_transport_new(hid: *mut CtapHid, max: usize, u2f: u8) -> u8;
+    fn snjofrask_transport_new(
+        hid: *mut CtapHid,
+        max: usize,
+        u2f: u8,
+        vendor: *const u8,
+        vendor_len: usize,
+    ) -> u8;
     fn snjofrask_transport_step(
         hid: *mut CtapHid,
         time: u64,
@@ -103,7 +111,13 @@ unsafe extern "C" {
         reply_len: usize,
     ) -> Outcome;
     fn snjofrask_is_locked(hid: *const CtapHid, time: u64) -> u8;
-    fn snjofrask_device_new(hid: *mut MainHid, max: usize, u2f: u8) -> u8;
+    fn snjofrask_device_new(
+        hid: *mut MainHid,
+        max: usize,
+        u2f: u8,
+        vendor: *const u8,
+        vendor_len: usize,
+    ) -> u8;
     fn snjofrask_device_step(
         hid: *mut MainHid,
         time: u64,
@@ -148,8 +162,8 @@ unsafe extern "C" {
     fn snjofrask_init_reply(cmd: u8, payload: *const u8, payload_len: usize) -> InitOutcome;
 }
 
-pub fn transport_new(hid: &mut CtapHid, max: usize, u2f: bool) -> u8 {
-    unsafe { snjofrask_transport_new(hid, max, u2f as u8) }
+pub fn transport_new(hid: &mut CtapHid, max: usize, u2f: bool, vendor: &[u8]) -> u8 {
+    unsafe { snjofrask_transport_new(hid, max, u2f as u8, vendor.as_ptr(), vendor.len()) }
 }
 
 pub fn transport_step(
@@ -179,8 +193,8 @@ pub fn is_locked(hid: &CtapHid, time: u64) -> u8 {
     unsafe { snjofrask_is_locked(hid, time) }
 }
 
-pub fn device_new(hid: &mut MainHid, max: usize, u2f: bool) -> u8 {
-    unsafe { snjofrask_device_new(hid, max, u2f as u8) }
+pub fn device_new(hid: &mut MainHid, max: usize, u2f: bool, vendor: &[u8]) -> u8 {
+    unsafe { snjofrask_device_new(hid, max, u2f as u8, vendor.as_ptr(), vendor.len()) }
 }
 
 pub fn device_step(

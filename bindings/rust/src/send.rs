@@ -75,7 +75,7 @@ impl<'a> HidPacketIterator<'a> {
     fn counted(message: Message<'a>, internal_error: u8, count: usize) -> HidPacketIterator<'a> {
         HidPacketIterator {
             cid: u32::from_be_bytes(message.cid),
-            cmd: message.cmd as u8,
+            cmd: message.cmd.number(),
             payload: message.payload,
             internal_error,
             index: 0,

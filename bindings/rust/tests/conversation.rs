@@ -1,8 +1,8 @@
 //! A host and a device, both of this crate, over packets: every length of message that stands at a boundary.
 use snjofrask::{
     CHANNEL_BROADCAST, ChannelID, Collection, CtapHid, CtapHidCommand, CtapHidError,
-    HidPacketIterator, LARGEST_PAYLOAD, LAST_TIME_MS, MainHid, Message, Processed, Progress,
-    Refusal, init_reply,
+    HidPacketIterator, LARGEST_PAYLOAD, LAST_TIME_MS, MainHid, Message, Parsed, Processed,
+    Progress, Refusal, init_reply,
 };
 
 const LENGTHS: [usize; 12] = [0, 1, 56, 57, 58, 115, 116, 117, 175, 1024, 7608, 7609];
@@ -57,13 +57,13 @@ fn init(device: &mut MainHid, time_ms: u64, nonce: [u8; 8]) -> (ChannelID, u8) {
 
 fn error(cid: ChannelID, error: CtapHidError) -> Option<(u8, Vec<u8>)> {
     let message = CtapHid::error_message(cid, error);
-    Some((message.cmd as u8, message.payload.to_vec()))
+    Some((message.cmd.number(), message.payload.to_vec()))
 }
 
 #[test]
 fn every_message_comes_back() {
     let mut buffer = [0; LARGEST_PAYLOAD];
-    let mut device = MainHid::new(&mut buffer, true).unwrap();
+    let mut device = MainHid::new(&mut buffer, true, &[]).unwrap();
     assert_eq!(init(&mut device, 0, [1; 8]).0, [0, 0, 0, 1]);
     let (cid, _) = init(&mut device, 0, [2; 8]);
     assert_eq!(cid, [0, 0, 0, 2]);
@@ -81,7 +81,7 @@ fn every_message_comes_back() {
             assert_eq!(packets.len(), 1 + (len + 1) / 59);
             assert_eq!(
                 ask(&mut device, 0, message),
-                Ok(Some((cmd as u8, reply.to_vec())))
+                Ok(Some((cmd.number(), reply.to_vec())))
             );
         }
     }
@@ -90,7 +90,7 @@ fn every_message_comes_back() {
 #[test]
 fn errors_are_told() {
     let mut buffer = [0; 100];
-    let mut device = MainHid::new(&mut buffer, false).unwrap();
+    let mut device = MainHid::new(&mut buffer, false, &[]).unwrap();
     let capabilities =
         CtapHid::CAPABILITY_WINK | CtapHid::CAPABILITY_CBOR | CtapHid::CAPABILITY_NMSG;
     assert_eq!(init(&mut device, 0, [0; 8]).1, capabilities);
@@ -159,11 +159,14 @@ fn longer_replies_to_init() {
     let bytes: Vec<u8> = (0..=LARGEST_PAYLOAD).map(|i| (i % 251) as u8).collect();
     let cmd = CtapHidCommand::Init;
     for len in [0, 16, LARGEST_PAYLOAD + 1] {
-        assert_eq!(init_reply(cmd as u8, &bytes[..len]), Err(Refusal::NotInit));
+        assert_eq!(
+            init_reply(cmd.number(), &bytes[..len]),
+            Err(Refusal::NotInit)
+        );
     }
     for len in [17, 18, 19, 256 + 17, LARGEST_PAYLOAD] {
         let payload = &bytes[..len];
-        let reply = init_reply(cmd as u8, payload).unwrap();
+        let reply = init_reply(cmd.number(), payload).unwrap();
         assert_eq!(reply.nonce, [0, 1, 2, 3, 4, 5, 6, 7]);
         assert_eq!((reply.cid, reply.capabilities), ([8, 9, 10, 11], 16));
         assert_eq!(reply.rest.as_ptr_range(), payload[17..].as_ptr_range());
@@ -185,10 +188,140 @@ fn longer_replies_to_init() {
     assert_eq!(init_reply(cmd, payload).unwrap().rest, [17, 18]);
 }
 
+/// The numbers of the vendor commands.
+fn vendor() -> impl Iterator<Item = u8> {
+    CtapHidCommand::VENDOR_FIRST..=CtapHidCommand::VENDOR_LAST
+}
+
+#[test]
+fn vendor_commands_come_back() {
+    // in any order, and one of them twice
+    let known = [127, 64, 100, 64];
+    let mut buffer = [0; LARGEST_PAYLOAD];
+    let mut device = MainHid::new(&mut buffer, true, &known).unwrap();
+    let (cid, _) = init(&mut device, 0, [0; 8]);
+    let bytes: Vec<u8> = (0..LARGEST_PAYLOAD).map(|i| (i % 251) as u8).collect();
+    for number in vendor() {
+        let cmd = CtapHidCommand::from(number);
+        assert!(matches!(cmd, CtapHidCommand::Vendor(vendor) if vendor.number() == number));
+        for len in LENGTHS {
+            let payload = &bytes[..len];
+            let reply = if known.contains(&number) {
+                Some((number, payload.iter().rev().copied().collect()))
+            } else {
+                error(cid, CtapHidError::InvalidCmd)
+            };
+            let message = Message { cid, cmd, payload };
+            assert_eq!(
+                ask(&mut device, 0, message),
+                Ok(reply),
+                "{number}, {len} bytes"
+            );
+        }
+    }
+
+    // on their own channel, which the broadcast one isn't
+    let cid = CHANNEL_BROADCAST;
+    let cmd = CtapHidCommand::from(64);
+    let message = Message {
+        cid,
+        cmd,
+        payload: &[],
+    };
+    assert_eq!(
+        ask(&mut device, 0, message),
+        Ok(error(cid, CtapHidError::InvalidChannel))
+    );
+}
+
+#[test]
+fn no_vendor_commands() {
+    let mut buffer = [0; 100];
+    let mut device = MainHid::new(&mut buffer, true, &[]).unwrap();
+    let (cid, _) = init(&mut device, 0, [0; 8]);
+    for number in vendor() {
+        for payload in [&[][..], &[0; 57], &[0; 58]] {
+            let cmd = CtapHidCommand::from(number);
+            let message = Message { cid, cmd, payload };
+            assert_eq!(
+                ask(&mut device, 0, message),
+                Ok(error(cid, CtapHidError::InvalidCmd))
+            );
+        }
+    }
+}
+
+#[test]
+fn a_transport_with_vendor_commands() {
+    let mut buffer = [0; 100];
+    let mut hid = CtapHid::new(&mut buffer, true, &[64]).unwrap();
+    let init = Message {
+        cid: CHANNEL_BROADCAST,
+        cmd: CtapHidCommand::Init,
+        payload: &[0; 8],
+    };
+    let init = CtapHid::split_message(init).next().unwrap();
+    assert!(matches!(
+        hid.parse_packet(0, &init, false),
+        Ok(Parsed::Reply(_))
+    ));
+    let known = Message {
+        cid: [0, 0, 0, 1],
+        cmd: CtapHidCommand::from(64),
+        payload: &[7; 58],
+    };
+    let unknown = Message {
+        cmd: CtapHidCommand::from(65),
+        ..known
+    };
+    let told = CtapHid::error_message(known.cid, CtapHidError::InvalidCmd);
+    // either is dealt with once it is whole
+    for (message, wanted) in [
+        (known, Parsed::Message(known)),
+        (unknown, Parsed::Reply(told)),
+    ] {
+        let packets: Vec<_> = CtapHid::split_message(message).collect();
+        assert_eq!(packets.len(), 2);
+        assert_eq!(hid.parse_packet(0, &packets[0], false), Ok(Parsed::Nothing));
+        assert_eq!(hid.parse_packet(0, &packets[1], false), Ok(wanted));
+    }
+}
+
+#[test]
+fn a_vendor_command_ends_a_wink() {
+    let mut buffer = [0; 100];
+    let mut device = MainHid::new(&mut buffer, true, &[64]).unwrap();
+    let (cid, _) = init(&mut device, 0, [0; 8]);
+    let wink = Message {
+        cid,
+        cmd: CtapHidCommand::Wink,
+        payload: &[],
+    };
+    for number in [64, 65] {
+        assert_eq!(ask(&mut device, 0, wink), Ok(Some((8, vec![]))));
+        let cmd = CtapHidCommand::from(number);
+        let message = Message {
+            cid,
+            cmd,
+            payload: &[0; 58],
+        };
+        let packets: Vec<_> = HidPacketIterator::new(message).unwrap().collect();
+        // not before it is whole
+        device.process_hid_packet(0, &packets[0], false).unwrap();
+        assert_eq!(device.should_wink(0), Ok(true));
+        let is_handed_out = matches!(
+            device.process_hid_packet(0, &packets[1], false),
+            Ok(Processed::Request(request)) if request == message
+        );
+        assert_eq!(is_handed_out, number == 64);
+        assert_eq!(device.should_wink(0), Ok(false));
+    }
+}
+
 #[test]
 fn a_message_out_of_order() {
     let mut buffer = [0; 200];
-    let mut device = MainHid::new(&mut buffer, true).unwrap();
+    let mut device = MainHid::new(&mut buffer, true, &[]).unwrap();
     let (cid, _) = init(&mut device, 0, [0; 8]);
     let message = Message {
         cid,
@@ -213,10 +346,24 @@ fn a_message_out_of_order() {
 fn refusals() {
     let mut buffer = [0; LARGEST_PAYLOAD + 1];
     assert_eq!(
-        MainHid::new(&mut buffer, true).err(),
+        MainHid::new(&mut buffer, true, &[]).err(),
         Some(Refusal::Maximum)
     );
-    let mut device = MainHid::new(&mut buffer[..57], true).unwrap();
+    // of a list, one that isn't the vendor's; a buffer that is too long comes first
+    for vendor in [&[63][..], &[128], &[0], &[255], &[64, 127, 63], &[63, 64]] {
+        for (len, wanted) in [
+            (LARGEST_PAYLOAD + 1, Refusal::Maximum),
+            (LARGEST_PAYLOAD, Refusal::Vendor),
+            (0, Refusal::Vendor),
+        ] {
+            let of_device = MainHid::new(&mut buffer[..len], true, vendor).err();
+            assert_eq!(of_device, Some(wanted), "{vendor:?}");
+            let of_transport = CtapHid::new(&mut buffer[..len], true, vendor).err();
+            assert_eq!(of_transport, Some(wanted), "{vendor:?}");
+        }
+    }
+    assert_eq!(Refusal::Vendor as u8, 13);
+    let mut device = MainHid::new(&mut buffer[..57], true, &[]).unwrap();
     let (cid, _) = init(&mut device, 7, [0; 8]);
     let ping = Message {
         cid,

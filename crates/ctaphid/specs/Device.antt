@@ -1,4 +1,4 @@
--- The device over its transport: wink, and the hand-over of MSG and CBOR (§11.2.9.2.1). Check 8 of docs/RULES.md. It sends no KEEPALIVE (DIFFERENCES 25).
+-- The device over its transport: wink, and the hand-over of MSG, CBOR and vendor commands (§11.2.9.2.1). Check 8 of docs/RULES.md. It sends no KEEPALIVE (DIFFERENCES 25).
 -- Assumes nothing.
 use Prim.Native.Nat.{ℕ, _+_}
 use mathlib.Core.Path.{_≡_}

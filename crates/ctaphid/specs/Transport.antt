@@ -151,8 +151,8 @@ knows set WINK = true
 knows set LOCK = true
 knows set (VENDOR n) = isIn n (set .vendor)
 
--- what it does with one that it knows. §11.2.9.1: PING is answered with the same data, CANCEL never (DIFFERENCES 19). MSG, CBOR, WINK and the vendor's are
--- handed out, of any length (DIFFERENCES 20)
+-- what it does with one that it knows, which ERROR and KEEPALIVE never are. §11.2.9.1: PING is answered with the same data, CANCEL never (DIFFERENCES 19). MSG,
+-- CBOR and WINK are handed out, of any length (DIFFERENCES 20), and so are the vendor's, whose data is not the standard's
 unfoldable pub obey : Transport → (time channel : ℕ) → Command → List ℕ → Next Transport
 obey d time c MSG payload = next d (request c MSG payload)
 obey d time c CBOR payload = next d (request c CBOR payload)

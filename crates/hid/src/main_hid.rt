@@ -1,4 +1,4 @@
-// The outer layer, after OpenSK's main_hid.rs: wink, and the hand-over of MSG and CBOR. Check 8 of a step (docs/RULES.md).
+// The outer layer, after OpenSK's main_hid.rs: wink, and the hand-over of MSG, CBOR and vendor commands. Check 8 of a step (docs/RULES.md).
 use crate::Answer;
 use crate::CtapHid;
 use crate::MainHid;

@@ -1,4 +1,5 @@
 //! The canned table: what stands in for an authenticator.
+use crate::label::Label;
 use snjofrask::{CtapHidCommand, Message};
 
 /// CTAP2 status: the host gave the request up.
@@ -27,17 +28,23 @@ const INS_NOT_SUPPORTED: &[u8] = &[0x6D, 0x00];
 const CLA_NOT_SUPPORTED: &[u8] = &[0x6E, 0x00];
 
 /// What is answered, and when.
-pub enum Answer {
-    AtOnce(&'static [u8]),
-    AfterTouch(&'static [u8]),
+pub enum Answer<'a> {
+    AtOnce(&'a [u8]),
+    AfterTouch(&'a [u8]),
 }
 
-/// The answer to MSG or CBOR.
-pub fn answer(request: &Message) -> Answer {
-    if request.cmd == CtapHidCommand::Msg {
-        return Answer::AtOnce(u2f(request.payload));
+/// The answer to MSG, CBOR or the vendor command.
+pub fn answer<'a>(request: &Message, label: &'a mut Label) -> Answer<'a> {
+    match request.cmd {
+        CtapHidCommand::Msg => Answer::AtOnce(u2f(request.payload)),
+        // no other is on the list
+        CtapHidCommand::Vendor(_) => Answer::AtOnce(label.answer(request.payload)),
+        _ => ctap2(request.payload),
     }
-    match request.payload {
+}
+
+fn ctap2(payload: &[u8]) -> Answer<'static> {
+    match payload {
         [] => Answer::AtOnce(INVALID_LENGTH),
         [0x01, ..] => Answer::AfterTouch(KEY_STORE_FULL),
         [0x02, ..] => Answer::AfterTouch(NO_CREDENTIALS),

@@ -1,7 +1,9 @@
 //! A CTAPHID device on a pipe. README.md beside this says what it answers and which variables it reads.
 mod answers;
+mod label;
 
 use answers::{Answer, KEEPALIVE_CANCEL, USER_ACTION_TIMEOUT, answer};
+use label::Label;
 use snjofrask::{
     ChannelID, CtapHid, CtapHidCommand, HidPacket, HidPacketIterator, KeepaliveStatus,
     LARGEST_PAYLOAD, MainHid, Message, Processed, ProcessedPacket,
@@ -114,7 +116,8 @@ fn send(packets: HidPacketIterator) -> io::Result<()> {
 
 fn serve(touch: &Touch) -> Result<(), Box<dyn Error>> {
     let mut buffer = [0; LARGEST_PAYLOAD];
-    let mut device = MainHid::new(&mut buffer, true)?;
+    let mut device = MainHid::new(&mut buffer, true, &[label::COMMAND])?;
+    let mut label = Label::new();
     let arrivals = arrivals();
     while let Ok(arrival) = arrivals.recv() {
         let Arrival { time_ms, packet } = arrival?;
@@ -123,7 +126,7 @@ fn serve(touch: &Touch) -> Result<(), Box<dyn Error>> {
             Processed::Request(request) => {
                 record(&request)?;
                 let Message { cid, cmd, .. } = request;
-                let payload = match answer(&request) {
+                let payload = match answer(&request, &mut label) {
                     Answer::AtOnce(payload) => payload,
                     Answer::AfterTouch(payload) => {
                         match wait_for_touch(touch, cid, &mut device, &arrivals)? {
@@ -152,7 +155,8 @@ fn record(request: &Message) -> io::Result<()> {
             .map(|byte| format!("{byte:02x}"))
             .collect::<String>()
     };
-    let (cid, cmd, payload) = (hex(&request.cid), request.cmd as u8, hex(request.payload));
+    let (cid, payload) = (hex(&request.cid), hex(request.payload));
+    let cmd = request.cmd.number();
     let mut file = File::options().create(true).append(true).open(name)?;
     file.write_all(format!("{cid} {cmd:02x} {payload}\n").as_bytes())
 }

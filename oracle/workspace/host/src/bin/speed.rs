@@ -298,7 +298,7 @@ fn rust_device<const DRAWN: bool>() -> RustDevice<DRAWN> {
 
 fn ours_device<const DRAWN: bool>() -> OursDevice<DRAWN> {
     OursDevice {
-        hid: ours::device_new(LARGEST, true).0,
+        hid: ours::device_new(LARGEST, true, &[]).0,
         message: vec![0; LARGEST],
         reply: vec![0; 17],
     }
@@ -317,7 +317,7 @@ pub fn run(job: &str, row: &Row, count: usize, sink: impl FnMut(&[u8])) {
         "rust:drawn" => feed(rust_device::<true>(), row, count, sink),
         "ours:received" => {
             let side = OursReceived {
-                hid: ours::transport_new(LARGEST, true).0,
+                hid: ours::transport_new(LARGEST, true, &[]).0,
                 message: vec![0; LARGEST],
                 reply: vec![0; 17],
             };

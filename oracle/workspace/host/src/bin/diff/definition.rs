@@ -1,11 +1,15 @@
-//! The rules for a step (docs/RULES.md), written once more by hand. It says what the buffers must hold after
-//! each step; and with a fault planted it takes our library's place, to see that the fault is found.
+//! The rules for set-up and for a step (docs/RULES.md), written once more by hand. It says what the buffers must hold
+//! after each step, and of a device with a list of vendor commands, which OpenSK hasn't, all else too; and with a fault
+//! planted it takes our library's place, to see that the fault is found.
 use crate::ours::{CtapHid, ECHO, MESSAGE, MessageAssembler, NOTHING, Outcome, REPLY};
 
 pub const BROADCAST: u32 = 0xffff_ffff;
 
-/// Faults of a step, and of the functions beside it.
-pub const FAULTS: [&str; 35] = [
+/// CTAP 2.1, 11.2.9.3: the numbers that are the vendor's.
+pub const VENDOR: std::ops::RangeInclusive<u8> = 0x40..=0x7f;
+
+/// Faults of a step, of set-up, and of the functions beside them.
+pub const FAULTS: [&str; 52] = [
     "first-number-1",
     "timer-99",
     "timer-101",
@@ -27,6 +31,23 @@ pub const FAULTS: [&str; 35] = [
     "reply-buffer-cleared",
     "57-begins-a-transaction",
     "owed-byte-lost",
+    "unlisted-handed-out",
+    "listed-not-known",
+    "listed-empty-not-known",
+    "listed-as-cbor",
+    "listed-leaves-wink",
+    "listed-on-broadcast",
+    "listed-begins-anew",
+    "list-bit-one-off",
+    "list-read-one-off",
+    "list-lost-at-init",
+    "list-in-order-alone",
+    "list-twice-is-off",
+    "list-first-alone-judged",
+    "list-63-taken",
+    "list-128-taken",
+    "13-before-5",
+    "refused-set-up-alters",
     "sender-number-1",
     "sender-stale-bytes",
     "reader-length-swapped",
@@ -47,6 +68,8 @@ pub const FAULTS: [&str; 35] = [
 pub struct Definition {
     pub hid: CtapHid,
     pub wink: u64,
+    /// The vendor commands that the device knows.
+    known: Vec<u8>,
     fault: &'static str,
 }
 
@@ -73,17 +96,62 @@ fn told(kind: u8, cid: u32, cmd: u8, len: usize) -> Outcome {
 }
 
 impl Definition {
-    pub fn new(max: usize, u2f: bool, allocated: u32, fault: &'static str) -> Self {
-        Definition {
+    /// Set-up, or the number of its refusal.
+    pub fn new(max: usize, u2f: bool, list: &[u8], fault: &'static str) -> Result<Self, u8> {
+        let judged = match fault {
+            "list-first-alone-judged" => &list[..list.len().min(1)],
+            _ => list,
+        };
+        let foreign = judged.iter().any(|number| match (fault, number) {
+            ("list-63-taken", 63) | ("list-128-taken", 128) => false,
+            _ => !VENDOR.contains(number),
+        });
+        if foreign && fault == "13-before-5" {
+            return Err(13);
+        }
+        if max > 7609 {
+            return Err(5);
+        }
+        if foreign {
+            return Err(13);
+        }
+        let mut known: Vec<u8> = vec![];
+        for number in list {
+            match fault {
+                "list-in-order-alone" if known.iter().any(|before| before > number) => (),
+                "list-twice-is-off" if known.contains(number) => known.retain(|n| n != number),
+                _ => known.push(*number),
+            }
+        }
+        if fault == "list-bit-one-off" {
+            known.retain(|number| *number < 127);
+        }
+        // the state has a bit for each of the vendor's numbers, in their order from the lowest
+        let bits = VENDOR.map(|number| known.contains(&number) as u64);
+        let mut vendor = bits.enumerate().map(|(at, bit)| bit << at).sum();
+        if fault == "list-bit-one-off" {
+            vendor <<= 1;
+        }
+        Ok(Definition {
             hid: CtapHid {
                 max: max as u32,
                 u2f: u2f as u32,
-                allocated,
+                vendor,
                 ..CtapHid::default()
             },
             wink: 0,
+            known,
             fault,
-        }
+        })
+    }
+
+    /// What a question tells.
+    pub fn is_locked(&self, time: u64) -> bool {
+        time < self.hid.lock
+    }
+
+    pub fn is_winking(&self, time: u64) -> bool {
+        time < self.wink
     }
 
     pub fn is(&self, fault: &str) -> bool {
@@ -106,10 +174,15 @@ impl Definition {
         effect.outer = effect.inner;
         effect.outer_reply = effect.inner_reply.clone();
         if effect.inner.kind != NOTHING {
-            if !(self.is("wink-ends-on-taken") && effect.inner.cmd == 63) {
+            let Outcome { cid, cmd, len, .. } = effect.inner;
+            let is_left = match self.fault {
+                "wink-ends-on-taken" => cmd == 63,
+                "listed-leaves-wink" => VENDOR.contains(&cmd),
+                _ => false,
+            };
+            if !is_left {
                 self.wink = 0;
             }
-            let Outcome { cid, cmd, len, .. } = effect.inner;
             let mut error = |number| {
                 effect.outer = told(REPLY, cid, 63, 1);
                 effect.outer_reply = vec![number];
@@ -152,7 +225,9 @@ impl Definition {
 
         // 1
         let valid = match cid {
-            BROADCAST => first && cmd == 6,
+            BROADCAST => {
+                first && (cmd == 6 || self.is("listed-on-broadcast") && self.known.contains(&cmd))
+            }
             _ => allocated(&self.hid),
         };
         if !valid {
@@ -195,7 +270,8 @@ impl Definition {
                 if cmd == 17 && self.fault == "cancel-in-message" {
                     return;
                 }
-                if cmd != 6 {
+                let anew = self.fault == "listed-begins-anew" && self.known.contains(&cmd);
+                if cmd != 6 && !anew {
                     return error(4);
                 }
             }
@@ -263,6 +339,9 @@ impl Definition {
                     if restarts && self.fault == "channel-2-kept" {
                         self.hid.allocated = 2;
                     }
+                    if self.fault == "list-lost-at-init" {
+                        self.known.clear();
+                    }
                 }
                 let mut reply: Vec<u8> = (0..8).map(byte).collect();
                 reply.extend(new.to_be_bytes());
@@ -291,7 +370,22 @@ impl Definition {
             17 => (),
             1 => effect.inner = told(ECHO, cid, 1, len),
             3 | 8 | 16 => effect.inner = told(MESSAGE, cid, cmd, len),
+            _ if VENDOR.contains(&cmd) && self.knows(cmd, len) => {
+                let as_cbor = self.fault == "listed-as-cbor";
+                effect.inner = told(MESSAGE, cid, if as_cbor { 16 } else { cmd }, len);
+            }
             _ => error(1),
+        }
+    }
+
+    /// Whether a vendor command is handed out, of so many bytes.
+    fn knows(&self, number: u8, len: usize) -> bool {
+        match self.fault {
+            "unlisted-handed-out" => !self.known.is_empty(),
+            "listed-not-known" => false,
+            "listed-empty-not-known" if len == 0 => false,
+            "list-read-one-off" => self.known.contains(&(number + 1)),
+            _ => self.known.contains(&number),
         }
     }
 }

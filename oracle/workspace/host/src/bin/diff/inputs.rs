@@ -13,6 +13,7 @@ pub fn bench(driver: &Driver, lines: u64) -> Result<()> {
         allocated: 0,
         slack: 0,
         scribble: 0,
+        list: None,
     };
     let mut run = Run::new(driver, &setup, &mut random);
     let mut out = BufWriter::new(stdout().lock());
@@ -87,9 +88,9 @@ impl Run {
         let state = self.pair.state();
         let mut time = self.time;
         let mut step = if self.wild {
-            traffic::wild(random, state, &mut time)
+            traffic::wild(random, state, None, &mut time)
         } else {
-            self.hosts.step(random, state, &mut time)
+            self.hosts.step(random, state, None, &mut time)
         };
         if self.thin {
             step.packet[10..].fill(0);

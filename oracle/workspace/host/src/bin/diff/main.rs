@@ -1,8 +1,9 @@
 //! Runs OpenSK's transport and ours on the same packets and compares them after every step.
-//!   diff [--seed N] [--steps N] [--depth N] [--fault NAME] [--answers]
+//!   diff [--seed N] [--steps N] [--depth N] [--lists N] [--fault NAME] [--answers]
 //!   diff [--seed N] (--lines N | --runs N)
-//! --depth N runs all sequences of up to N letters; --steps N runs N random steps. --fault plants a
-//! fault in a stand-in for our library; --answers leaves states and buffers uncompared. Exits with 1
+//! --depth N runs all sequences of up to N letters; --steps N runs N random steps. --lists N runs set-ups, and N random
+//! steps, with lists of vendor commands, which OpenSK hasn't, and compares them with the definition (definition.rs). --fault
+//! plants a fault in a stand-in for our library; --answers leaves states and buffers uncompared. Exits with 1
 //! where the two differ, after the shortest run that it can find.
 //! --lines N and --runs N print N lines of such traffic instead, for bench.rs and crates/replay.
 mod definition;
@@ -11,7 +12,7 @@ mod ours;
 mod pair;
 mod traffic;
 
-use definition::FAULTS;
+use definition::{FAULTS, VENDOR};
 use ours::{ECHO, MESSAGE, NOTHING};
 use pair::{Pair, Setup, Step, U2F};
 use std::process::exit;
@@ -24,15 +25,18 @@ struct Driver {
     answers_only: bool,
     answers: Arc<Vec<u8>>,
     done: u64,
-    /// Answers of the device: nothing, messages, echoes, other replies, and errors by number.
+    /// Answers of the device: nothing, messages, echoes, other replies, and errors by number; and of the messages the
+    /// vendor commands.
     kinds: [u64; 4],
     errors: [u64; 12],
+    vendor: u64,
 }
 
 fn main() {
     let mut seed = 1;
     let mut steps = 0;
     let mut depth = 0;
+    let mut lists = 0;
     let mut fault = "";
     let mut answers_only = false;
     let mut lines = 0;
@@ -44,6 +48,7 @@ fn main() {
             "--seed" => seed = number().unwrap_or_else(|| usage()),
             "--steps" => steps = number().unwrap_or_else(|| usage()),
             "--depth" => depth = number().unwrap_or_else(|| usage()) as u32,
+            "--lists" => lists = number().unwrap_or_else(|| usage()),
             "--answers" => answers_only = true,
             "--lines" => lines = number().unwrap_or_else(|| usage()),
             "--runs" => runs = number().unwrap_or_else(|| usage()),
@@ -55,7 +60,7 @@ fn main() {
             _ => usage(),
         }
     }
-    let mut driver = Driver {
+    let driver = || Driver {
         seed,
         fault,
         answers_only,
@@ -63,7 +68,9 @@ fn main() {
         done: 0,
         kinds: [0; 4],
         errors: [0; 12],
+        vendor: 0,
     };
+    let (mut driver, mut listed) = (driver(), driver());
     if lines + runs > 0 {
         inputs::bench(&driver, lines)
             .and_then(|()| inputs::runs(&driver, runs))
@@ -73,23 +80,33 @@ fn main() {
     let messages = driver.senders_and_readers();
     let sequences = driver.exhaustive(depth);
     let exhaustive = driver.done;
-    driver.random(steps);
-    let [nothing, handed, echoes, replies] = driver.kinds;
+    driver.random(steps, false);
+    let refusals = listed.with_lists(lists);
     println!(
         "{} U2F, seed {seed}: {messages} messages split and read, {sequences} sequences ({exhaustive} steps), \
          {} random steps: no difference",
         if U2F { "with" } else { "without" },
         driver.done - exhaustive
     );
-    println!(
-        "  answers: {nothing} nothing, {handed} handed over, {echoes} echoes, {replies} other replies; \
-         errors by number {:?}",
-        driver.errors
-    );
+    driver.say_answers();
+    if lists > 0 {
+        println!(
+            "  with lists of vendor commands: {} set-ups, {} steps: as the definition says",
+            refusals.iter().sum::<u64>(),
+            listed.done
+        );
+        listed.say_answers();
+        println!(
+            "  handed over were {} vendor commands; {} set-ups were refused by 5, {} by 13",
+            listed.vendor, refusals[5], refusals[13]
+        );
+    }
 }
 
 fn usage() -> ! {
-    eprintln!("usage: diff [--seed N] [--steps N] [--depth N] [--fault NAME] [--answers]");
+    eprintln!(
+        "usage: diff [--seed N] [--steps N] [--depth N] [--lists N] [--fault NAME] [--answers]"
+    );
     eprintln!("       diff [--seed N] (--lines N | --runs N)");
     eprintln!("faults: none {}", FAULTS.join(" "));
     exit(2)
@@ -143,6 +160,7 @@ impl Driver {
                 allocated,
                 slack: 3,
                 scribble: 0xee,
+                list: None,
             };
             // the longest alone: each shorter one is the front of one of them
             if depth == 0 {
@@ -171,11 +189,66 @@ impl Driver {
         sequences
     }
 
-    fn random(&mut self, steps: u64) {
+    /// Set-ups and steps with lists of vendor commands: each command, where it stands on the list alone and where it alone
+    /// is missing; and random ones. Tells how many set-ups had each refusal, or none.
+    fn with_lists(&mut self, steps: u64) -> [u64; 14] {
+        let mut refusals = [0; 14];
+        if steps == 0 {
+            return refusals;
+        }
+        let mut random = Random::new(self.seed);
+        for at in 1..=steps.div_ceil(10) {
+            let (max, list, came) = traffic::set_up(&mut random);
+            match pair::set_up(max, &list, came, self.fault, self.answers_only) {
+                Ok(refusal) => refusals[refusal as usize] += 1,
+                Err(what) => {
+                    println!("DIFFERENCE at set-up {at} of seed {}: {what}", self.seed);
+                    println!("a maximum of {max}, and the list {list:?}");
+                    exit(1);
+                }
+            }
+        }
+        for number in VENDOR {
+            self.each_command(vec![number]);
+            self.each_command(VENDOR.filter(|other| *other != number).collect());
+        }
+        self.random(steps, true);
+        refusals
+    }
+
+    /// A message of one byte with each of the 128 commands.
+    fn each_command(&mut self, list: Vec<u8>) {
+        let setup = Setup {
+            max: 117,
+            allocated: 2,
+            slack: 3,
+            scribble: 0xee,
+            list: Some(list),
+        };
+        let mut pair = self.pair(&setup);
+        let mut run = vec![];
+        for cmd in 0..128 {
+            let mut packet = [0; 64];
+            packet[3..8].copy_from_slice(&[1, 128 | cmd, 0, 1, 0]);
+            run.push(Step {
+                time: 0,
+                disabled: false,
+                packet,
+                answer: 0,
+            });
+            self.step(&mut pair, &setup, &run);
+        }
+    }
+
+    fn random(&mut self, steps: u64, with_lists: bool) {
         let mut random = Random::new(self.seed);
         let end = self.done + steps;
         while self.done < end {
-            let setup = traffic::setup(&mut random);
+            let mut setup = traffic::setup(&mut random);
+            if with_lists {
+                setup.list = Some(traffic::list(&mut random));
+            }
+            let list = setup.list.as_deref();
             let mut time = traffic::start(&mut random);
             let mut hosts = Hosts::new(&mut random);
             let wild = random.one_in(2);
@@ -184,9 +257,9 @@ impl Driver {
             let len = if wild { 200 } else { 400 };
             while run.len() < len && self.done < end {
                 run.push(if wild {
-                    traffic::wild(&mut random, pair.state(), &mut time)
+                    traffic::wild(&mut random, pair.state(), list, &mut time)
                 } else {
-                    hosts.step(&mut random, pair.state(), &mut time)
+                    hosts.step(&mut random, pair.state(), list, &mut time)
                 });
                 self.step(&mut pair, &setup, &run);
             }
@@ -212,7 +285,10 @@ impl Driver {
             Err(what) => self.found(setup, run, what),
             Ok(outcome) => match outcome.kind {
                 NOTHING => self.kinds[0] += 1,
-                MESSAGE => self.kinds[1] += 1,
+                MESSAGE => {
+                    self.kinds[1] += 1;
+                    self.vendor += VENDOR.contains(&outcome.cmd) as u64;
+                }
                 ECHO => self.kinds[2] += 1,
                 _ => self.kinds[3] += 1,
             },
@@ -220,6 +296,15 @@ impl Driver {
         if let Some(error) = pair.error() {
             self.errors[error as usize] += 1;
         }
+    }
+
+    fn say_answers(&self) {
+        let [nothing, handed, echoes, replies] = self.kinds;
+        println!(
+            "  answers: {nothing} nothing, {handed} handed over, {echoes} echoes, {replies} other replies; \
+             errors by number {:?}",
+            self.errors
+        );
     }
 
     /// What differs first in a run, and after how many steps.
@@ -232,8 +317,14 @@ impl Driver {
 
     fn found(&self, setup: &Setup, run: &[Step], what: String) -> ! {
         println!(
-            "DIFFERENCE at step {} of seed {}: {what}",
-            self.done, self.seed
+            "DIFFERENCE at step {}{} of seed {}: {what}",
+            self.done,
+            if setup.list.is_some() {
+                " with lists"
+            } else {
+                ""
+            },
+            self.seed
         );
         let mut run = run.to_vec();
         // ever smaller pieces out, for as long as any difference is left

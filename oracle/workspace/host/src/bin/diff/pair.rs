@@ -1,4 +1,5 @@
-//! OpenSK and ours, side by side: each step goes through both, and all that can be seen is compared.
+//! OpenSK and ours, side by side: each step goes through both, and all that can be seen is compared. A device with a list of
+//! vendor commands, which OpenSK hasn't, is compared with the definition alone.
 use crate::definition::{BROADCAST, Definition, Effect};
 use crate::ours::{self, ECHO, MESSAGE, NOTHING, Outcome, REPLY};
 use host::{HostEnv, Timer};
@@ -25,6 +26,9 @@ pub struct Setup {
     pub slack: usize,
     /// Tells this run's scribbles from another's.
     pub scribble: u8,
+    /// The vendor commands that are listed, to compare with the definition. Without, OpenSK is compared with; it knows
+    /// none, so the list is empty.
+    pub list: Option<Vec<u8>>,
 }
 
 #[derive(Clone)]
@@ -173,6 +177,7 @@ pub struct Pair {
     outer: MainHid<HostEnv>,
     ours: Ours,
     definition: Definition,
+    is_listed: bool,
     message: Lent,
     inner_reply: Lent,
     outer_reply: Lent,
@@ -213,15 +218,25 @@ impl Pair {
         let mut outer = MainHid::default();
         inner.oracle_set_allocated(setup.allocated);
         outer.oracle_hid().oracle_set_allocated(setup.allocated);
-        let (mut our_inner, refusal) = ours::transport_new(setup.max, U2F);
+        let list = setup.list.as_deref().unwrap_or_default();
+        let (mut our_inner, refusal) = ours::transport_new(setup.max, U2F, list);
         assert_eq!(refusal, 0);
-        let (mut our_outer, refusal) = ours::device_new(setup.max, U2F);
+        let (mut our_outer, refusal) = ours::device_new(setup.max, U2F, list);
         assert_eq!(refusal, 0);
         our_inner.allocated = setup.allocated;
         our_outer.hid.allocated = setup.allocated;
+        // ignored, and left as it is
+        let spare = u64::from_ne_bytes([setup.scribble; 8]);
+        our_inner.spare = spare;
+        our_outer.hid.spare = spare;
         let message = || Lent::new(setup.max + setup.slack);
         let reply = || Lent::new(17 + setup.slack);
-        let definition = |fault| Definition::new(setup.max, U2F, setup.allocated, fault);
+        let definition = |fault| {
+            let mut definition = Definition::new(setup.max, U2F, list, fault).unwrap();
+            definition.hid.allocated = setup.allocated;
+            definition.hid.spare = spare;
+            definition
+        };
         Pair {
             env,
             authenticator,
@@ -237,6 +252,7 @@ impl Pair {
                 faulty: (!fault.is_empty()).then(|| definition(fault)),
             },
             definition: definition(""),
+            is_listed: setup.list.is_some(),
             message: message(),
             inner_reply: reply(),
             outer_reply: reply(),
@@ -290,6 +306,9 @@ impl Pair {
         let Step { time, packet, .. } = step;
         self.scribble(*time);
         read(packet, self.fault)?;
+        if self.is_listed {
+            return self.step_as_defined(step);
+        }
 
         // OpenSK
         self.env.now.0 = *time;
@@ -397,7 +416,63 @@ impl Pair {
             return Ok(our_outer);
         }
         self.states(*time)?;
-        self.buffers(&effect, packet)?;
+        self.write(&effect, packet);
+        self.buffers()?;
+        Ok(our_outer)
+    }
+
+    /// The rest of a step of a device with a list: answers, questions, states and buffers are the definition's.
+    fn step_as_defined(&mut self, step: &Step) -> Result<Outcome, String> {
+        let Step { time, packet, .. } = step;
+        let (our_inner, our_outer) = self.ours.step(step);
+        self.last = our_outer;
+        let effect =
+            self.definition
+                .step(*time, step.disabled, packet, self.message.front(usize::MAX));
+        same!("the transport's answer", effect.inner, our_inner);
+        same!("the device's answer", effect.outer, our_outer);
+        let lock = self.definition.is_locked(*time) as u8;
+        same!("lock", lock, self.ours.is_locked(*time));
+        same!("device's lock", lock, self.ours.is_locked_outside(*time));
+        let wink = self.definition.is_winking(*time) as u8;
+        same!("wink", wink, self.ours.is_winking(*time));
+
+        self.write(&effect, packet);
+        for (name, outcome, wanted, ours) in [
+            (
+                "the transport's payload",
+                our_inner,
+                (&self.message, &self.inner_reply),
+                (&self.ours.inner_message, &self.ours.inner_reply),
+            ),
+            (
+                "the device's payload",
+                our_outer,
+                (&self.message, &self.outer_reply),
+                (&self.ours.outer_message, &self.ours.outer_reply),
+            ),
+        ] {
+            let payload = |(message, reply): (&Lent, &Lent)| {
+                let stands = if outcome.kind == REPLY {
+                    reply
+                } else {
+                    message
+                };
+                stands.front(outcome.len).to_vec()
+            };
+            same!(name, payload(wanted), payload(ours));
+        }
+        if self.answers_only {
+            return Ok(our_outer);
+        }
+        let Definition { hid, wink, .. } = self.definition;
+        same!("transport: state", hid, self.ours.inner);
+        same!(
+            "device: state",
+            ours::MainHid { hid, wink },
+            self.ours.outer
+        );
+        self.buffers()?;
         Ok(our_outer)
     }
 
@@ -459,10 +534,14 @@ impl Pair {
         Ok(())
     }
 
-    fn buffers(&mut self, effect: &Effect, packet: &HidPacket) -> Result<(), String> {
+    /// What the definition writes, into the buffers that it has beside ours.
+    fn write(&mut self, effect: &Effect, packet: &HidPacket) {
         self.message.write(effect.at, &packet[effect.data.clone()]);
         self.inner_reply.write(0, &effect.inner_reply);
         self.outer_reply.write(0, &effect.outer_reply);
+    }
+
+    fn buffers(&self) -> Result<(), String> {
         for (name, wanted, ours) in [
             (
                 "transport: message",
@@ -491,6 +570,43 @@ impl Pair {
         }
         Ok(())
     }
+}
+
+/// Set-up of our transport and our device, over a state that came as it is, against the definition's. Tells the refusal.
+pub fn set_up(
+    max: usize,
+    list: &[u8],
+    came: ours::MainHid,
+    fault: &'static str,
+    answers_only: bool,
+) -> Result<u8, String> {
+    let told = |defined: Result<Definition, u8>| match defined {
+        Ok(Definition { hid, wink, .. }) => (0, ours::MainHid { hid, wink }),
+        Err(refusal) => (refusal, came),
+    };
+    let (wanted, left) = told(Definition::new(max, U2F, list, ""));
+    let mut inner = came.hid;
+    let mut outer = came;
+    let refusals = if fault.is_empty() {
+        (
+            ours::raw::transport_new(&mut inner, max, U2F, list),
+            ours::raw::device_new(&mut outer, max, U2F, list),
+        )
+    } else {
+        let (refusal, hid) = told(Definition::new(max, U2F, list, fault));
+        outer = match fault {
+            "refused-set-up-alters" if refusal != 0 => ours::MainHid::default(),
+            _ => hid,
+        };
+        inner = outer.hid;
+        (refusal, refusal)
+    };
+    same!("refusals of set-up", (wanted, wanted), refusals);
+    if !answers_only {
+        same!("transport: state after set-up", left.hid, inner);
+        same!("device: state after set-up", left, outer);
+    }
+    Ok(wanted)
 }
 
 /// Both readings of one packet.

@@ -1,6 +1,7 @@
-//! Made-up traffic. All of it comes from a seed.
-use crate::definition::BROADCAST;
-use crate::ours::CtapHid;
+//! Made-up traffic. All of it comes from a seed. Where a list of vendor commands is given, half of the commands are
+//! about it.
+use crate::definition::{BROADCAST, VENDOR};
+use crate::ours::{CtapHid, MainHid, MessageAssembler};
 use crate::pair::{LAST_TIME, Setup, Step};
 use opensk::ctap::hid::HidPacket;
 use std::collections::VecDeque;
@@ -73,7 +74,90 @@ pub fn setup(random: &mut Random) -> Setup {
         ]),
         slack: random.of(&[0, 0, 1, 47]),
         scribble: random.next() as u8,
+        list: None,
     }
+}
+
+fn vendor(random: &mut Random) -> u8 {
+    match random.below(4) {
+        0 => random.of(&[64, 127]),
+        _ => VENDOR.start() + random.below(64) as u8,
+    }
+}
+
+/// Vendor commands: none, one, several in any order and some more than once, or all, once or more.
+pub fn list(random: &mut Random) -> Vec<u8> {
+    match random.below(8) {
+        0 => vec![],
+        1..4 => vec![vendor(random)],
+        4..7 => {
+            let mut list = vec![vendor(random)];
+            for _ in 0..1 + random.below(20) {
+                let again = random.of(&list);
+                let other = vendor(random);
+                list.push(if random.one_in(3) { again } else { other });
+            }
+            list
+        }
+        _ => {
+            let mut list: Vec<u8> = VENDOR.collect();
+            if random.one_in(3) {
+                list = list.repeat(1 + random.below(5));
+            }
+            for at in (1..list.len()).rev() {
+                list.swap(at, random.below(at + 1));
+            }
+            list
+        }
+    }
+}
+
+/// For set-up: a maximum, a list, and the state before. In every other list a number stands that isn't the vendor's.
+pub fn set_up(random: &mut Random) -> (usize, Vec<u8>, MainHid) {
+    let any = random.below(9000);
+    let max = random.of(&[
+        0,
+        57,
+        7608,
+        7609,
+        7610,
+        7611,
+        65_536 + 57,
+        (1 << 32) + 57,
+        usize::MAX,
+        any,
+        any,
+        any,
+    ]);
+    let mut list = list(random);
+    if random.one_in(2) {
+        let any = random.next() as u8;
+        let foreign = random.of(&[63, 63, 128, 128, 0, 1, 16, 62, 129, 192, 255, any]);
+        list.insert(random.below(list.len() + 1), foreign);
+    }
+    let mut number = || random.next() << 32 ^ random.next();
+    let came = MainHid {
+        hid: CtapHid {
+            assembler: MessageAssembler {
+                deadline: number(),
+                cid: number() as u32,
+                len: number() as u32,
+                taken: number() as u32,
+                cmd: number() as u16,
+                seq: number() as u16,
+            },
+            lock: number(),
+            last: number(),
+            vendor: number(),
+            allocated: number() as u32,
+            locked: number() as u32,
+            max: number() as u32,
+            u2f: number() as u32,
+            spare: number(),
+        },
+        wink: number(),
+    };
+    (max, list, came)
 }
 
 pub fn start(random: &mut Random) -> u64 {
@@ -106,7 +190,24 @@ fn length(random: &mut Random, cmd: u8, max: usize) -> usize {
     }
 }
 
-fn command(random: &mut Random) -> u8 {
+fn command(random: &mut Random, list: Option<&[u8]>) -> u8 {
+    match list {
+        Some(list) if random.one_in(2) => near(random, list),
+        _ => any_command(random),
+    }
+}
+
+/// One of the list or beside one of it, at an end of the vendor's numbers, or any of them.
+fn near(random: &mut Random, list: &[u8]) -> u8 {
+    match random.below(8) {
+        0..3 if !list.is_empty() => random.of(list),
+        3 if !list.is_empty() => (random.of(list) - 1 + random.of(&[0, 2])) & 127,
+        4 => random.of(&[62, 63, 64, 127]),
+        _ => vendor(random),
+    }
+}
+
+fn any_command(random: &mut Random) -> u8 {
     match random.below(20) {
         0 => random.below(128) as u8,
         _ => random.of(&[
@@ -116,7 +217,7 @@ fn command(random: &mut Random) -> u8 {
 }
 
 /// A packet after the state that it will find: what goes on, and what nearly does.
-pub fn wild(random: &mut Random, hid: &CtapHid, time: &mut u64) -> Step {
+pub fn wild(random: &mut Random, hid: &CtapHid, list: Option<&[u8]>, time: &mut u64) -> Step {
     if random.one_in(4) {
         *time += random.of(&GAPS);
     }
@@ -155,6 +256,9 @@ pub fn wild(random: &mut Random, hid: &CtapHid, time: &mut u64) -> Step {
         if random.one_in(14) {
             let seq = a.seq as u8;
             packet[4] = random.of(&[0, 1, seq + 1, seq.wrapping_sub(1), 127, 0x91, 0x86, 0x81]);
+            if let (0x81, Some(list)) = (packet[4], list) {
+                packet[4] = 128 | near(random, list);
+            }
             if packet[4] == 0x86 {
                 packet[5..7].copy_from_slice(&[0, 8]);
             }
@@ -165,7 +269,7 @@ pub fn wild(random: &mut Random, hid: &CtapHid, time: &mut u64) -> Step {
     } else if random.one_in(6) {
         packet[4] &= 127;
     } else {
-        let cmd = command(random);
+        let cmd = command(random, list);
         let len = length(random, cmd, hid.max as usize);
         packet[4] = 128 | cmd;
         packet[5..7].copy_from_slice(&(len as u16).to_be_bytes());
@@ -207,7 +311,13 @@ impl Hosts {
         Hosts { hosts, turn: 0 }
     }
 
-    pub fn step(&mut self, random: &mut Random, hid: &CtapHid, time: &mut u64) -> Step {
+    pub fn step(
+        &mut self,
+        random: &mut Random,
+        hid: &CtapHid,
+        list: Option<&[u8]>,
+        time: &mut u64,
+    ) -> Step {
         if random.one_in(30) {
             *time += random.of(&GAPS);
         } else if random.one_in(3) {
@@ -225,7 +335,7 @@ impl Hosts {
             }
             let cmd = match host.cid {
                 BROADCAST => 6,
-                _ => command(random),
+                _ => command(random, list),
             };
             let len = length(random, cmd, hid.max as usize);
             host.queue = message(random, host.cid, cmd, len);
