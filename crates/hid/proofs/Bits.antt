@@ -2,7 +2,7 @@
 use Prim.Native.Nat.{ℕ, zero, suc, _+_, _-_, _*_, _^_, _/_, _%_, _≤_, _<_}
 use native.Mathlib.Omega.{arith}
 use native.Mathlib.Decide.{decLe, decLt, ℕ-discrete}
-use native.Mathlib.Nat.{div-eq-of-lt}
+use native.Mathlib.Nat.{div-eq-of-lt, one-mul}
 use mathlib.Core.Path.{_≡_, refl, sym, ap, subst, _∙_}
 use mathlib.Core.List.{List, [], _∷_}
 use mathlib.Core.Bool.{Bool, true, false, true≢false}
@@ -22,20 +22,14 @@ use Rattle.hid.specs.Vendor.{hasBit, setAmong, vendorOf, allVendor, bitO
 
 -- a power of two has one bit
 one-bit : (j : ℕ) → 2 ^ j / 2 ^ j % 2 ≡ 1
-one-bit j = ap (λ (x : ℕ). x / 2 ^ j % 2) (sym (plain (2 ^ j))) ∙ ap (λ (x : ℕ). x % 2) (shl-shr 1 j)
-  where
-    plain : (x : ℕ) → 1 * x ≡ x
-    plain x = omega arith
+one-bit j = ap (λ (x : ℕ). x / 2 ^ j % 2) (sym (one-mul (2 ^ j))) ∙ ap (λ (x : ℕ). x % 2) (shl-shr 1 j)
 
 above-bit : (j i : ℕ) → j < i → 2 ^ j / 2 ^ i % 2 ≡ 0
 above-bit j i h = ap (λ (x : ℕ). x % 2) (div-eq-of-lt (pow-lt h))
 
 below-bit : (i k : ℕ) → 2 ^ (suc k + i) / 2 ^ i % 2 ≡ 0
 below-bit i k =
-    ap (λ (x : ℕ). x / 2 ^ i % 2) (pow-add 2 (suc k) i) ∙ (ap (λ (x : ℕ). x % 2) (shl-shr (2 ^ suc k) i) ∙ (ap (λ (x : ℕ). x % 2) (sym (plain (2 ^ suc k))) ∙ shifted-even 1 k))
-  where
-    plain : (x : ℕ) → 1 * x ≡ x
-    plain x = omega arith
+    ap (λ (x : ℕ). x / 2 ^ i % 2) (pow-add 2 (suc k) i) ∙ (ap (λ (x : ℕ). x % 2) (shl-shr (2 ^ suc k) i) ∙ (ap (λ (x : ℕ). x % 2) (sym (one-mul (2 ^ suc k))) ∙ shifted-even 1 k))
 
 other-bit : (j i : ℕ) → (i ≡ j → ⊥) → 2 ^ j / 2 ^ i % 2 ≡ 0
 other-bit j i h = by-order (decLt j i)
@@ -62,9 +56,6 @@ module _ (bits m n : ℕ) (m-low : 64 ≤ m) (n-low : 64 ≤ n) where
       or-one (suc zero) h = refl
       or-one (suc (suc b)) h = absurd (omega arith)
 
-      or-zero : (b : ℕ) → bitOr b 0 ≡ b
-      or-zero b = or-zero-r b
-
       split : bitOr bits (bitOf m) / 2 ^ (n - 64) % 2 ≡ bitOr (bits / 2 ^ (n - 64) % 2) (bitOf m / 2 ^ (n - 64) % 2)
       split = or-bit bits (bitOf m) (n - 64)
 
@@ -75,7 +66,7 @@ module _ (bits m n : ℕ) (m-low : 64 ≤ m) (n-low : 64 ≤ n) where
           simp (eq-eqb n m e) (eq-eqb _ 1 is)
       by-number (no e) =
           let other : bitOf m / 2 ^ (n - 64) % 2 ≡ 0 = other-bit (m - 64) (n - 64) (λ z. e (omega arith)) in
-          let is : bitOr bits (bitOf m) / 2 ^ (n - 64) % 2 ≡ bits / 2 ^ (n - 64) % 2 = split ∙ (ap (bitOr (bits / 2 ^ (n - 64) % 2)) other ∙ or-zero (bits / 2 ^ (n - 64) % 2)) in
+          let is : bitOr bits (bitOf m) / 2 ^ (n - 64) % 2 ≡ bits / 2 ^ (n - 64) % 2 = split ∙ (ap (bitOr (bits / 2 ^ (n - 64) % 2)) other ∙ or-zero-r (bits / 2 ^ (n - 64) % 2)) in
           simp (ne-eqb n m e) (ap (λ (x : ℕ). eqb x 1) is)
 
 -- ---- the numbers whose bits are set
@@ -186,10 +177,7 @@ leaves-just-the-list l all = record { members = λ n. members n; room = below-64
 
 -- a number's bit, shifted into its place
 pub shifted : (n : ℕ) → n ≤ 127 → (1 * 2 ^ (n - 64)) % 2 ^ 64 ≡ bitOf n
-shifted n high = shl-exact 1 (n - 64) 64 (lit< tt) (omega arith) ∙ plain (2 ^ (n - 64))
-  where
-    plain : (x : ℕ) → 1 * x ≡ x
-    plain x = omega arith
+shifted n high = shl-exact 1 (n - 64) 64 (lit< tt) (omega arith) ∙ one-mul (2 ^ (n - 64))
 
 -- a bit, tested
 pub tested : (bits n : ℕ) → 64 ≤ n → n ≤ 127 → eqb (bitAnd (bits / 2 ^ (n - 64)) 1) 1 ≡ isIn n (vendorOf bits)
