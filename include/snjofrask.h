@@ -180,7 +180,7 @@ typedef struct snjofrask_assembler {
 } snjofrask_assembler;
 
 /* A transport. Channels 1 to allocated are allocated; channel locked holds the lock until the time lock; last is the time of the latest step.
-   vendor has a bit for each vendor command, the lowest for 64: it is set where the command is known. spare is ignored, and stays as it is. */
+   vendor has a bit for each vendor command, the lowest for 64: it is set where the command is known. spare and later are ignored, and stay as they are. */
 typedef struct snjofrask_transport {
     snjofrask_assembler assembler;
     uint64_t lock;
@@ -189,8 +189,9 @@ typedef struct snjofrask_transport {
     uint32_t allocated;
     uint32_t locked;
     uint32_t max;
-    uint32_t u2f;
-    uint64_t spare;
+    uint8_t u2f;
+    uint8_t spare;
+    uint16_t later;
 } snjofrask_transport;
 
 /* A device: a transport, and a wink that runs until the time wink. */
@@ -244,7 +245,7 @@ SNJOFRASK_ASSERT(offsetof(snjofrask_assembler, taken) == 16);
 SNJOFRASK_ASSERT(offsetof(snjofrask_assembler, cmd) == 20);
 SNJOFRASK_ASSERT(offsetof(snjofrask_assembler, seq) == 22);
 
-SNJOFRASK_ASSERT(sizeof(snjofrask_transport) == 72);
+SNJOFRASK_ASSERT(sizeof(snjofrask_transport) == 64);
 SNJOFRASK_ASSERT(SNJOFRASK_ALIGNMENT(snjofrask_transport) == 8);
 SNJOFRASK_ASSERT(offsetof(snjofrask_transport, assembler) == 0);
 SNJOFRASK_ASSERT(offsetof(snjofrask_transport, lock) == 24);
@@ -254,12 +255,13 @@ SNJOFRASK_ASSERT(offsetof(snjofrask_transport, allocated) == 48);
 SNJOFRASK_ASSERT(offsetof(snjofrask_transport, locked) == 52);
 SNJOFRASK_ASSERT(offsetof(snjofrask_transport, max) == 56);
 SNJOFRASK_ASSERT(offsetof(snjofrask_transport, u2f) == 60);
-SNJOFRASK_ASSERT(offsetof(snjofrask_transport, spare) == 64);
+SNJOFRASK_ASSERT(offsetof(snjofrask_transport, spare) == 61);
+SNJOFRASK_ASSERT(offsetof(snjofrask_transport, later) == 62);
 
-SNJOFRASK_ASSERT(sizeof(snjofrask_device) == 80);
+SNJOFRASK_ASSERT(sizeof(snjofrask_device) == 72);
 SNJOFRASK_ASSERT(SNJOFRASK_ALIGNMENT(snjofrask_device) == 8);
 SNJOFRASK_ASSERT(offsetof(snjofrask_device, hid) == 0);
-SNJOFRASK_ASSERT(offsetof(snjofrask_device, wink) == 72);
+SNJOFRASK_ASSERT(offsetof(snjofrask_device, wink) == 64);
 
 SNJOFRASK_ASSERT(sizeof(snjofrask_collection) == 6);
 SNJOFRASK_ASSERT(SNJOFRASK_ALIGNMENT(snjofrask_collection) == 2);

@@ -226,10 +226,11 @@ static void device_of_others(void)
 
     /* with any bits here it makes sense */
     device.hid.vendor = ~(uint64_t)0;
-    device.hid.spare = ~(uint64_t)0;
+    device.hid.spare = 0xFF;
+    device.hid.later = 0xFFFF;
     CHECK(is(device_step(&device, 0, 0), SNJOFRASK_KIND_REPLY, SNJOFRASK_CHANNEL_BROADCAST, SNJOFRASK_CMD_ERROR, 1));
     CHECK(snjofrask_is_winking(&device, 0) == 0 && snjofrask_is_locked(&device.hid, 0) == 0);
-    CHECK(device.hid.vendor == ~(uint64_t)0 && device.hid.spare == ~(uint64_t)0);
+    CHECK(device.hid.vendor == ~(uint64_t)0 && device.hid.spare == 0xFF && device.hid.later == 0xFFFF);
 }
 
 /* half a message stands in the buffer while the device is disabled, and goes on after */
@@ -324,7 +325,7 @@ static int is_set_up(const uint8_t *vendor, size_t vendor_len, uint64_t bits)
     snjofrask_device device;
     snjofrask_transport transport;
 
-    CHECK(device_new(&fresh, 57, 1) == 0 && fresh.hid.vendor == 0 && fresh.hid.spare == 0);
+    CHECK(device_new(&fresh, 57, 1) == 0 && fresh.hid.vendor == 0 && fresh.hid.spare == 0 && fresh.hid.later == 0);
     fresh.hid.vendor = bits;
     memset(&device, 0xEE, sizeof device);
     memset(&transport, 0xEE, sizeof transport);
@@ -436,7 +437,6 @@ static int is_no_command(snjofrask_outcome answer)
 static void vendor_messages(void)
 {
     static const size_t lengths[] = {0, 1, 57, 58, SNJOFRASK_LARGEST_PAYLOAD};
-    const uint64_t spare = 0x1122334455667788;
     uint8_t vendor[] = {127, 64};
     snjofrask_device device;
     snjofrask_transport transport;
@@ -444,8 +444,8 @@ static void vendor_messages(void)
     CHECK(snjofrask_device_new(&device, SNJOFRASK_LARGEST_PAYLOAD, 0, vendor, sizeof vendor) == 0);
     CHECK(snjofrask_transport_new(&transport, SNJOFRASK_LARGEST_PAYLOAD, 0, vendor, sizeof vendor) == 0);
     memset(vendor, 65, sizeof vendor);
-    device.hid.spare = spare;
-    transport.spare = spare;
+    device.hid.spare = transport.spare = 0x11;
+    device.hid.later = transport.later = 0x2233;
     put(SNJOFRASK_CHANNEL_BROADCAST, SNJOFRASK_CMD_INIT, 8, 0);
     CHECK(device_step(&device, 0, 0).cmd == SNJOFRASK_CMD_INIT && transport_step(&transport, 0, 0).cmd == SNJOFRASK_CMD_INIT);
     for (size_t i = 0; i < sizeof lengths / sizeof lengths[0]; i++)
@@ -459,7 +459,8 @@ static void vendor_messages(void)
             }
         }
     CHECK(device.hid.vendor == 0x8000000000000001 && transport.vendor == 0x8000000000000001);
-    CHECK(device.hid.spare == spare && transport.spare == spare);
+    CHECK(device.hid.spare == 0x11 && device.hid.later == 0x2233);
+    CHECK(transport.spare == 0x11 && transport.later == 0x2233);
 
     /* while it works on one it is disabled, and tells so whatever the command */
     put(1, 64, 1, 0);

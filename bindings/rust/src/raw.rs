@@ -24,8 +24,9 @@ pub struct CtapHid {
     pub allocated: u32,
     pub locked: u32,
     pub max: u32,
-    pub u2f: u32,
-    pub spare: u64,
+    pub u2f: u8,
+    pub spare: u8,
+    pub later: u16,
 }
 
 #[repr(C)]
@@ -69,8 +70,8 @@ pub struct InitOutcome {
     pub nonce: [u8; 8],
 }
 
-const _: () = assert!(size_of::<MessageAssembler>() == 24 && size_of::<CtapHid>() == 72);
-const _: () = assert!(size_of::<MainHid>() == 80 && size_of::<Collection>() == 6);
+const _: () = assert!(size_of::<MessageAssembler>() == 24 && size_of::<CtapHid>() == 64);
+const _: () = assert!(size_of::<MainHid>() == 72 && size_of::<Collection>() == 6);
 const _: () = assert!(size_of::<Outcome>() == size_of::<usize>() + 8);
 const _: () = assert!(size_of::<InitOutcome>() == 20);
 const _: () = assert!(align_of::<CtapHid>() == 8 && align_of::<MainHid>() == 8);

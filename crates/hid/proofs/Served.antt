@@ -44,11 +44,11 @@ laid s a r x r′ h e = ap (λ (o : Answering). serving (record { hid = s; answe
 -- s with another lock, and with another count of channels
 abbrev pub bolting : CtapHid → (holder until : ℕ) → CtapHid
 bolting s holder until =
-    record { assembler = s .assembler; lock = until; last = s .last; vendor = s .vendor; allocated = s .allocated; locked = holder; max = s .max; u2f = s .u2f; spare = s .spare }
+    record { assembler = s .assembler; lock = until; last = s .last; vendor = s .vendor; allocated = s .allocated; locked = holder; max = s .max; u2f = s .u2f; spare = s .spare; later = s .later }
 
 abbrev pub counting : CtapHid → (allocated : ℕ) → CtapHid
 counting s n =
-    record { assembler = s .assembler; lock = s .lock; last = s .last; vendor = s .vendor; allocated = n; locked = s .locked; max = s .max; u2f = s .u2f; spare = s .spare }
+    record { assembler = s .assembler; lock = s .lock; last = s .last; vendor = s .vendor; allocated = n; locked = s .locked; max = s .max; u2f = s .u2f; spare = s .spare; later = s .later }
 
 -- no transaction
 pub idle-is : (a : MessageAssembler) (m : List ℕ) → a ≡ none → receiverOf a m ≡ idle
@@ -64,7 +64,7 @@ module _ (s : CtapHid) (m r : List ℕ) (e : s .assembler ≡ none) where
   unfolding servedOf
   stays a =
       λ i. serving (record {
-        hid = record { assembler = same-assembler i; lock = s .lock; last = s .last; vendor = s .vendor; allocated = s .allocated; locked = s .locked; max = s .max; u2f = s .u2f; spare = s .spare };
+        hid = record { assembler = same-assembler i; lock = s .lock; last = s .last; vendor = s .vendor; allocated = s .allocated; locked = s .locked; max = s .max; u2f = s .u2f; spare = s .spare; later = s .later };
         answer = answerOf a;
       }) (replied a r)
 
@@ -73,7 +73,7 @@ module _ (s : CtapHid) (m r : List ℕ) (e : s .assembler ≡ none) where
   unfolding servedOf
   locks l a =
       λ i. serving (record {
-        hid = record { assembler = same-assembler i; lock = l .until; last = s .last; vendor = s .vendor; allocated = s .allocated; locked = l .holder; max = s .max; u2f = s .u2f; spare = s .spare };
+        hid = record { assembler = same-assembler i; lock = l .until; last = s .last; vendor = s .vendor; allocated = s .allocated; locked = l .holder; max = s .max; u2f = s .u2f; spare = s .spare; later = s .later };
         answer = answerOf a;
       }) (replied a r)
 
@@ -81,7 +81,7 @@ module _ (s : CtapHid) (m r : List ℕ) (e : s .assembler ≡ none) where
   unfolding servedOf
   allocates n a =
       λ i. serving (record {
-        hid = record { assembler = same-assembler i; lock = s .lock; last = s .last; vendor = s .vendor; allocated = n; locked = s .locked; max = s .max; u2f = s .u2f; spare = s .spare };
+        hid = record { assembler = same-assembler i; lock = s .lock; last = s .last; vendor = s .vendor; allocated = n; locked = s .locked; max = s .max; u2f = s .u2f; spare = s .spare; later = s .later };
         answer = answerOf a;
       }) (replied a r)
 

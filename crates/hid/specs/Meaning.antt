@@ -35,4 +35,5 @@ stateOf s time d =
       max = s .max;
       u2f = s .u2f;
       spare = s .spare;
+      later = s .later;
     }

@@ -16,7 +16,7 @@ use Rattle.hid.specs.declared.MainReady.the-variants as device
 
 abbrev pub freshHid : (maximum : ℕ) → (u2f : Bool) → (vendor : List ℕ) → CtapHid
 freshHid max u2f numbers =
-    record { assembler = none; lock = 0; last = 0; vendor = bitsOf numbers; allocated = 0; locked = 0; max = max; u2f = cond u2f 1 0; spare = 0 }
+    record { assembler = none; lock = 0; last = 0; vendor = bitsOf numbers; allocated = 0; locked = 0; max = max; u2f = cond u2f 1 0; spare = 0; later = 0 }
 
 abbrev pub freshMain : (maximum : ℕ) → (u2f : Bool) → (vendor : List ℕ) → MainHid
 freshMain max u2f numbers = record { hid = freshHid max u2f numbers; wink = 0 }

@@ -15,7 +15,7 @@ use Rattle.hid.specs.Meaning.{stateOf}
 -- s with another last time and transaction
 abbrev pub having : CtapHid → (time : ℕ) → MessageAssembler → CtapHid
 having s time a =
-    record { assembler = a; lock = s .lock; last = time; vendor = s .vendor; allocated = s .allocated; locked = s .locked; max = s .max; u2f = s .u2f; spare = s .spare }
+    record { assembler = a; lock = s .lock; last = time; vendor = s .vendor; allocated = s .allocated; locked = s .locked; max = s .max; u2f = s .u2f; spare = s .spare; later = s .later }
 
 -- s as a packet at this time meets it. What stands in an assembler without a transaction is cleared
 unfoldable pub arriving : CtapHid → (time : ℕ) → CtapHid

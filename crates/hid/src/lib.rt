@@ -19,7 +19,7 @@ pub use receive::MessageAssembler;
 
 // Every state is numbers, without padding, so that one type serves Rattle, Rust and C. A timer is its deadline, 0 when unset.
 // The transport. Channels 1 to allocated are allocated; locked holds the lock until the time lock; u2f is 0 for a key without; vendor has a bit for each of the
-// vendor's 64 numbers, the lowest for 64. spare is ignored, and stays as it is.
+// vendor's 64 numbers, the lowest for 64. spare and later are ignored, and stay as they are.
 #[repr(C)]
 pub struct CtapHid {
     pub assembler: MessageAssembler,
@@ -29,8 +29,9 @@ pub struct CtapHid {
     pub allocated: u32,
     pub locked: u32,
     pub max: u32,
-    pub u2f: u32,
-    pub spare: u64,
+    pub u2f: u8,
+    pub spare: u8,
+    pub later: u16,
 }
 
 // The transport and the wink, which runs until the time wink.

@@ -67,7 +67,8 @@ fn fresh(max: u32, u2f: bool, vendor: &[u8]) -> CtapHid
         allocated: 0,
         locked: 0,
         max,
-        u2f: u2f as u32,
+        u2f: u2f as u8,
         spare: 0,
+        later: 0,
     }
 }

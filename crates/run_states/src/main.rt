@@ -63,6 +63,7 @@ fn base() -> CtapHid {
         max: 200,
         u2f: 1,
         spare: 0,
+        later: 0,
     }
 }
 
@@ -99,8 +100,9 @@ fn limits() {
     hid.vendor = 0xFFFF_FFFF_FFFF_FFFF;
     trial(b"all vendor commands", hid);
     hid = base();
-    hid.spare = 0xFFFF_FFFF_FFFF_FFFF;
-    trial(b"any spare number", hid);
+    hid.spare = 0xFF;
+    hid.later = 0xFFFF;
+    trial(b"any spare numbers", hid);
 }
 
 fn deadlines() {
@@ -387,6 +389,7 @@ fn same(a: CtapHid, b: CtapHid) -> bool {
         && a.u2f == b.u2f
         && a.vendor == b.vendor
         && a.spare == b.spare
+        && a.later == b.later
 }
 
 fn same_assembler(a: MessageAssembler, b: MessageAssembler) -> bool {

@@ -135,7 +135,7 @@ impl Definition {
         Ok(Definition {
             hid: CtapHid {
                 max: max as u32,
-                u2f: u2f as u32,
+                u2f: u2f as u8,
                 vendor,
                 ..CtapHid::default()
             },

@@ -226,15 +226,15 @@ impl Pair {
         our_inner.allocated = setup.allocated;
         our_outer.hid.allocated = setup.allocated;
         // ignored, and left as it is
-        let spare = u64::from_ne_bytes([setup.scribble; 8]);
-        our_inner.spare = spare;
-        our_outer.hid.spare = spare;
+        let (spare, later) = (setup.scribble, u16::from_ne_bytes([setup.scribble; 2]));
+        (our_inner.spare, our_inner.later) = (spare, later);
+        (our_outer.hid.spare, our_outer.hid.later) = (spare, later);
         let message = || Lent::new(setup.max + setup.slack);
         let reply = || Lent::new(17 + setup.slack);
         let definition = |fault| {
             let mut definition = Definition::new(setup.max, U2F, list, fault).unwrap();
             definition.hid.allocated = setup.allocated;
-            definition.hid.spare = spare;
+            (definition.hid.spare, definition.hid.later) = (spare, later);
             definition
         };
         Pair {

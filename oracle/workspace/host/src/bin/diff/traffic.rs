@@ -152,8 +152,9 @@ pub fn set_up(random: &mut Random) -> (usize, Vec<u8>, MainHid) {
             allocated: number() as u32,
             locked: number() as u32,
             max: number() as u32,
-            u2f: number() as u32,
-            spare: number(),
+            u2f: number() as u8,
+            spare: number() as u8,
+            later: number() as u16,
         },
         wink: number(),
     };
