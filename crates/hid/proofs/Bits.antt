@@ -16,7 +16,8 @@ use Rattle.ctaphid.specs.Choice.{pick, isIn}
 use Rattle.ctaphid.specs.Commands.{isVendor}
 use Rattle.ctaphid.proofs.Tests.{pick-true, pick-known}
 use Rattle.ctaphid.proofs.Commands.{vendor-range, is-vendor}
-use Rattle.hid.specs.Vendor.{hasBit, setAmong, vendorOf, allVendor, bitOf, bitsWith, bitsOf, JustTheList, LeavesJustTheList}
+use Rattle.hid.specs.declared.vendor.Listed.the-variants.{Bits, Foreign}
+use Rattle.hid.specs.Vendor.{hasBit, setAmong, vendorOf, allVendor, bitOf, bitsWith, bitsOf, listedOf, JustTheList, LeavesJustTheList}
 
 -- ---- bits
 
@@ -200,10 +201,6 @@ module _ (l : List ℕ) (i : ℕ) (h : i < length l) where
   unfolding allVendor pick
   vendor-not is t = ap allVendor opened ∙ simp (sym is ∙ t)
 
-  pub vendor-here : allVendor (drop i l) ≡ true → (isVendor (getD l i 0) ≡ true) × (allVendor (drop (i + 1) l) ≡ true)
-  unfolding allVendor
-  vendor-here all = pick-true (isVendor (getD l i 0)) (allVendor (drop (i + 1) l)) (sym (ap allVendor opened) ∙ all)
-
   pub bits-next : (bits : ℕ) → bitsWith bits (drop i l) ≡ bitsWith (bitOr bits (bitOf (getD l i 0))) (drop (i + 1) l)
   unfolding bitsWith
   bits-next bits = ap (bitsWith bits) opened
@@ -216,3 +213,12 @@ module _ (l : List ℕ) (i : ℕ) (h : length l ≤ i) where
   pub bits-end : (bits : ℕ) → bitsWith bits (drop i l) ≡ bits
   unfolding bitsWith
   bits-end bits = ap (bitsWith bits) (drop-of-length-le l h)
+
+-- what reading a list tells
+pub listed-all : (l : List ℕ) → allVendor l ≡ true → Bits (bitsOf l) ≡ listedOf l
+unfolding listedOf pick
+listed-all l e = simp e
+
+pub listed-not : (l : List ℕ) → allVendor l ≡ false → Foreign ≡ listedOf l
+unfolding listedOf pick
+listed-not l e = simp e

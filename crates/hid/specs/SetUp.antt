@@ -14,9 +14,12 @@ use Rattle.hid.specs.declared.Ready.the-variants as transport
 use Rattle.hid.specs.declared.MainReady.{MainReady}
 use Rattle.hid.specs.declared.MainReady.the-variants as device
 
+abbrev pub freshWith : (maximum : ℕ) → (u2f : Bool) → (bits : ℕ) → CtapHid
+freshWith max u2f bits =
+    record { assembler = none; lock = 0; last = 0; vendor = bits; allocated = 0; locked = 0; max = max; u2f = cond u2f 1 0; spare = 0; later = 0 }
+
 abbrev pub freshHid : (maximum : ℕ) → (u2f : Bool) → (vendor : List ℕ) → CtapHid
-freshHid max u2f numbers =
-    record { assembler = none; lock = 0; last = 0; vendor = bitsOf numbers; allocated = 0; locked = 0; max = max; u2f = cond u2f 1 0; spare = 0; later = 0 }
+freshHid max u2f numbers = freshWith max u2f (bitsOf numbers)
 
 abbrev pub freshMain : (maximum : ℕ) → (u2f : Bool) → (vendor : List ℕ) → MainHid
 freshMain max u2f numbers = record { hid = freshHid max u2f numbers; wink = 0 }
@@ -24,10 +27,6 @@ freshMain max u2f numbers = record { hid = freshHid max u2f numbers; wink = 0 }
 -- 5, a maximum above 7,609; 13, a number that isn't the vendor's
 abbrev pub setUpRefusals : (maximum : ℕ) → (vendor : List ℕ) → List (Bool × ℕ)
 setUpRefusals max numbers = (ltb largest max, 5) ∷ (not (allVendor numbers), 13) ∷ []
-
--- the first that refuses, or 0
-unfoldable pub setUpRefusal : (maximum : ℕ) → (vendor : List ℕ) → ℕ
-setUpRefusal max numbers = refusing (λ number. number) (setUpRefusals max numbers) 0
 
 unfoldable pub newOf : (maximum : ℕ) → (u2f : Bool) → (vendor : List ℕ) → Ready
 newOf max u2f numbers = refusing transport.Refused (setUpRefusals max numbers) (transport.Hid (freshHid max u2f numbers))

@@ -7,6 +7,8 @@ use lib.Bits.{bitOr}
 use lib.Dec.{eqb}
 use Rattle.ctaphid.specs.Choice.{pick, isIn}
 use Rattle.ctaphid.specs.Commands.{isVendor}
+use Rattle.hid.specs.declared.vendor.Listed.{Listed}
+use Rattle.hid.specs.declared.vendor.Listed.the-variants.{Bits, Foreign}
 
 -- ---- what the bits mean
 
@@ -39,6 +41,10 @@ bitsWith bits (n ∷ rest) = bitsWith (bitOr bits (bitOf n)) rest
 
 abbrev pub bitsOf : List ℕ → ℕ
 bitsOf numbers = bitsWith 0 numbers
+
+-- what reading a list tells
+unfoldable pub listedOf : List ℕ → Listed
+listedOf numbers = pick (allVendor numbers) (Bits (bitsOf numbers)) Foreign
 
 -- set-up leaves just the list's bits, and nothing above them
 pub record JustTheList (numbers : List ℕ) : Type 0 where

@@ -1,38 +1,31 @@
 // The vendor's commands that a device knows: a bit for each of their numbers, the lowest for 64.
 use packet::CtapHidCommand;
 ghost use mathlib.Core.Path.{_≡_};
-ghost use mathlib.Core.Bool.{true};
 ghost use Prim.Native.Nat.{_≤_};
 ghost use Rattle.ctaphid.specs.Choice.{isIn};
-ghost use Rattle.hid.specs.Vendor.{vendorOf, allVendor, bitOf, bitsOf};
+ghost use Rattle.hid.specs.Vendor.{vendorOf, bitOf, listedOf};
 
-// Whether each of the numbers is the vendor's.
-pub(crate) fn are_vendor(numbers: &[u8]) -> bool
-    ensures { λ r. ⌜ r ≡ allVendor (now (numbers .entry)) ⌝ }
-{
-    let mut i = 0;
-    while i < numbers.len() {
-        if CtapHidCommand::is_vendor(numbers[i]) {
-            i += 1;
-        } else {
-            return false;
-        }
-    }
-    true
+// A list's bits, or that it has a number that isn't the vendor's.
+pub enum Listed {
+    Bits(u64),
+    Foreign,
 }
 
-// The bits of these numbers.
-pub(crate) fn bits_of(numbers: &[u8]) -> u64
-    requires { ⌜ allVendor (now numbers) ≡ true ⌝ }
-    ensures { λ r. ⌜ r ≡ bitsOf (now (numbers .entry)) ⌝ }
+pub(crate) fn read_list(numbers: &[u8]) -> Listed
+    ensures { λ r. ⌜ r ≡ listedOf (now (numbers .entry)) ⌝ }
 {
     let mut bits = 0u64;
     let mut i = 0;
     while i < numbers.len() {
-        bits = bits | bit_of(numbers[i]);
-        i += 1;
+        let number = numbers[i];
+        if CtapHidCommand::is_vendor(number) {
+            bits = bits | bit_of(number);
+            i += 1;
+        } else {
+            return Listed::Foreign;
+        }
     }
-    bits
+    Listed::Bits(bits)
 }
 
 fn bit_of(number: u8) -> u64
