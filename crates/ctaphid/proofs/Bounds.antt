@@ -12,7 +12,7 @@ use lib.ListN.{length, take, getD}
 use lib.Seq.{length-take-le}
 use Rattle.ctaphid.specs.Choice.{pick}
 use Rattle.ctaphid.specs.Packets.{Packet, initialization, continuation, read}
-use Rattle.ctaphid.specs.Commands.{Command, MSG, CBOR, INIT, PING, CANCEL, ERROR, KEEPALIVE, WINK, LOCK, number, commandOf, commands, VENDOR}
+use Rattle.ctaphid.specs.Commands.{Command, MSG, CBOR, INIT, PING, CANCEL, ERROR, KEEPALIVE, WINK, LOCK, number, commandOf, VENDOR}
 use Rattle.ctaphid.specs.Errors.{Error, InvalidCmd, InvalidPar, InvalidLen, ChannelBusy, code}
 use Rattle.ctaphid.specs.Receiver.{Transaction, Receiver, idle, busy, Reception, silent, fault, whole, Turn, channelOf, collect, start, whenIdle, whenOver, onOwn, whenBusy, receive, isOn}
 use Rattle.ctaphid.specs.Transport.{Settings, Lock, Transport, Event, Answer, nothing, reply, request, Next, error, notValid, isLocked, isLockedBy, onInit, lockFor, onLock, dispatch, settle, hear, withReceiver, knows, obey}

@@ -1,7 +1,7 @@
 -- Numbers read as commands. Assumes nothing.
-use Prim.Native.Nat.{ℕ, _+_, _≤_, _<_}
+use Prim.Native.Nat.{ℕ, _≤_, _<_}
 use native.Mathlib.Omega.{arith}
-use mathlib.Core.Path.{_≡_, refl, sym, ap, subst, _∙_}
+use mathlib.Core.Path.{_≡_, refl, sym, subst, _∙_}
 use mathlib.Core.Bool.{Bool, true, false}
 use borrow.Author.Tests.{ne-eqb, lt-leb, le-leb, leb-true}
 use lib.Dec.{eqb, leb}
@@ -27,43 +27,22 @@ pub from-64 : (n : ℕ) → 64 ≤ n → leb n 127 ≡ isVendor n
 unfolding isVendor pick
 from-64 n h = simp (le-leb 64 n h)
 
+-- no named number is the vendor's
+none-named : (n : ℕ) → isVendor n ≡ true → (other : Command) → among commands n other ≡ other
+unfolding pick among
+none-named n v other = simp (past 0x03 refl, past 0x10 refl, past 0x06 refl, past 0x01 refl, past 0x11 refl, past 0x3f refl, past 0x3b refl, past 0x08 refl, past 0x04 refl)
+  where
+    past : (k : ℕ) → leb k 63 ≡ true → eqb n k ≡ false
+    past k h = ne-eqb n k (λ e. let r = vendor-range n v in omega (arith, leb-true k 63 h))
+
 -- where a call has told that it is one, or not
 pub vendor-read : (n : ℕ) {b : Bool} → b ≡ isVendor n → b ≡ true → VENDOR n ≡ commandOf n
 unfolding pick
-vendor-read n is h = simp (sym is ∙ h)
+vendor-read n is h = let v = sym is ∙ h in sym (none-named n v _ ∙ simp v)
 
--- the number that a command of the vendor's has, and 0 for any other
-abbrev vendorIn : Command → ℕ
-vendorIn MSG = 0
-vendorIn CBOR = 0
-vendorIn INIT = 0
-vendorIn PING = 0
-vendorIn CANCEL = 0
-vendorIn ERROR = 0
-vendorIn KEEPALIVE = 0
-vendorIn WINK = 0
-vendorIn LOCK = 0
-vendorIn (VENDOR n) = n + 1
+-- ---- what can be read
 
--- no named number reads as the vendor's
-none-among : (n : ℕ) → vendorIn (among commands n) ≡ 0
-unfolding among
-none-among n =
-    pick-both Not _ _ _ refl (pick-both Not _ _ _ refl (pick-both Not _ _ _ refl (pick-both Not _ _ _ refl (pick-both Not _ _ _ refl (pick-both Not _ _ _ refl (pick-both Not _ _ _ refl (pick-both Not _ _ _ refl (pick-both Not _ _ _ refl refl))))))))
-  where
-    Not : Command → Type 0
-    Not k = vendorIn k ≡ 0
-
--- a number that reads as one of the vendor's is its number
-pub reads-vendor : (n k : ℕ) → VENDOR k ≡ commandOf n → isVendor k ≡ true
-reads-vendor n k =
-    pick-known (λ (x : Command). VENDOR k ≡ x → isVendor k ≡ true) (isVendor n) _ _
-    (λ v e. let same : k + 1 ≡ n + 1 = ap vendorIn e in subst (λ (t : ℕ). isVendor t ≡ true) (omega arith) v)
-    (λ v e. absurd (omega (arith, ap vendorIn e ∙ none-among n)))
-
--- ---- the others
-
--- what can be read: any, but of the vendor's those with its numbers
+-- any command, but of the vendor's those with its numbers
 abbrev pub Named : Command → Type 0
 Named MSG = Unit {0}
 Named CBOR = Unit {0}
@@ -75,6 +54,15 @@ Named KEEPALIVE = Unit {0}
 Named WINK = Unit {0}
 Named LOCK = Unit {0}
 Named (VENDOR n) = isVendor n ≡ true
+
+reads-named : (n : ℕ) → Named (commandOf n)
+unfolding among
+reads-named n =
+    pick-both Named _ _ _ tt (pick-both Named _ _ _ tt (pick-both Named _ _ _ tt (pick-both Named _ _ _ tt (pick-both Named _ _ _ tt (pick-both Named _ _ _ tt (pick-both Named _ _ _ tt (pick-both Named _ _ _ tt (pick-both Named _ _ _ tt (pick-known Named (isVendor n) _ _ (λ v. v) (λ v. tt))))))))))
+
+-- so what reads as one of the vendor's has one of its numbers
+pub reads-vendor : (n k : ℕ) → VENDOR k ≡ commandOf n → isVendor k ≡ true
+reads-vendor n k e = subst Named (sym e) (reads-named n)
 
 -- reading a command's number gives the command: so no two have the same number
 pub command-of-number : (c : Command) → Named c → commandOf (number c) ≡ c

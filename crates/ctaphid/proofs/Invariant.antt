@@ -187,14 +187,16 @@ module _ (max time : ℕ) where
 -- ---- what a whole message alters: by INIT the count of channels, by LOCK the lock
 
 -- what reads as LOCK is LOCK's number
-among-lock : (cs : List Command) (n : ℕ) → among cs n ≡ LOCK → n ≡ 4
+among-lock : (cs : List Command) (n : ℕ) (other : Command) → (other ≡ LOCK → n ≡ 4) → among cs n other ≡ LOCK → n ≡ 4
 unfolding among
-among-lock [] n = λ e. let z : _≡_ {A = ℕ} 63 4 = ap number e in absurd (omega arith)
-among-lock (c ∷ rest) n =
-    pick-known (λ (x : Command). x ≡ LOCK → n ≡ 4) (eqb n (number c)) _ _ (λ e h. eqb-true n (number c) e ∙ ap number h) (λ e. among-lock rest n)
+among-lock [] n other h = h
+among-lock (c ∷ rest) n other h =
+    pick-known (λ (x : Command). x ≡ LOCK → n ≡ 4) (eqb n (number c)) _ _ (λ e k. eqb-true n (number c) e ∙ ap number k) (λ e. among-lock rest n other h)
 
 pub reads-lock : (n : ℕ) → commandOf n ≡ LOCK → n ≡ 4
-reads-lock n = pick-known (λ (x : Command). x ≡ LOCK → n ≡ 4) (isVendor n) _ _ (λ v e. ap number e) (λ v. among-lock commands n)
+reads-lock n =
+    among-lock commands n _
+    (pick-both (λ (x : Command). x ≡ LOCK → n ≡ 4) (isVendor n) _ _ (ap number) (λ e. let z : _≡_ {A = ℕ} 63 4 = ap number e in absurd (omega arith)))
 
 -- what holds of a transport is kept, where those two keep it
 module _ (P : Transport → Type 0) (d : Transport) (time c : ℕ) (payload : List ℕ) (same : P d) where

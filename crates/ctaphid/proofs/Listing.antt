@@ -2,7 +2,7 @@
 use Prim.Native.Nat.{ℕ}
 use mathlib.Core.Path.{_≡_, refl, sym, ap, _∙_}
 use mathlib.Core.List.{List, [], _∷_}
-use mathlib.Core.Bool.{Bool, true, false}
+use mathlib.Core.Bool.{Bool}
 use lib.Dec.{ltb, eqb}
 use lib.ListN.{length, getD}
 use Rattle.ctaphid.specs.Choice.{pick, isIn}
@@ -11,7 +11,7 @@ use Rattle.ctaphid.specs.Commands.{Command, MSG, CBOR, INIT, PING, CANCE
 use Rattle.ctaphid.specs.Errors.{InvalidCmd}
 use Rattle.ctaphid.specs.Receiver.{Reception, silent, fault, whole, Turn, channelOf, receive}
 use Rattle.ctaphid.specs.Transport.{Settings, listing, Transport, fresh, Event, Answer, nothing, reply, request, Next, next, error, broadcast, isValid, isShut, knows, obey, dispatch, onInit, onLock, withReceiver, settle, hear, step, answersOf, run}
-use Rattle.ctaphid.specs.Device.{Device, device, setUp, onWink, onMsg, onRequest, answered, deviceStep, deviceRun, OnlyMembersCount}
+use Rattle.ctaphid.specs.Device.{Device, device, setUp, onWink, onMsg, onRequest, answered, deviceStep, OnlyMembersCount}
 use Rattle.ctaphid.specs.Demands.{standard, after, answer}
 use Rattle.ctaphid.proofs.Tests.{both-pick}
 use Rattle.ctaphid.proofs.Device.{same-transport}
@@ -109,8 +109,11 @@ answers-through f g Fits steps keeps s fits (e ∷ rest) =
 abbrev pub Lists : List ℕ → Settings → Type 0
 Lists l set = (n : ℕ) → isIn n l ≡ isIn n (set .vendor)
 
+lists-as : (l : List ℕ) (a b : Settings) → b ≡ a → Lists l a → Lists l b
+lists-as l a b e same n = same n ∙ ap (λ (set : Settings). isIn n (set .vendor)) (sym e)
+
 lists-on : (l : List ℕ) (d : Transport) (e : Event) → Lists l (d .settings) → Lists l (step d e .state .settings)
-lists-on l d e same n = same n ∙ ap (λ (set : Settings). isIn n (set .vendor)) (sym (same-settings d (e .time) (e .disabled) (read (e .packet))))
+lists-on l d e same = lists-as l _ _ (same-settings d (e .time) (e .disabled) (read (e .packet))) same
 
 pub run-alike : (set : Settings) (l : List ℕ) → Lists l set → (events : List Event) → run (fresh (listing l set)) events ≡ run (fresh set) events
 run-alike set l same events =
@@ -121,19 +124,19 @@ after-alike set l same [] = refl
 after-alike set l same (e ∷ past) =
     let d : Transport = after standard set past in
     ap (λ (x : Transport). step x e .state) (after-alike set l same past)
-    ∙ ap (λ (n : Next Transport). n .state) (hear-alike l d (λ n. same n ∙ ap (λ (x : Settings). isIn n (x .vendor)) (sym (settings-after set past))) (e .time) (e .disabled) (read (e .packet)))
+    ∙ ap (λ (n : Next Transport). n .state) (hear-alike l d (lists-as l _ _ (settings-after set past) same) (e .time) (e .disabled) (read (e .packet)))
 
 -- and each answer after any history
 pub answer-alike : (set : Settings) (l : List ℕ) → Lists l set → (past : List Event) (e : Event) → answer standard (listing l set) past e ≡ answer standard set past e
 answer-alike set l same past e =
     let d : Transport = after standard set past in
     ap (λ (x : Transport). step x e .answer) (after-alike set l same past)
-    ∙ ap (λ (n : Next Transport). n .answer) (hear-alike l d (λ n. same n ∙ ap (λ (x : Settings). isIn n (x .vendor)) (sym (settings-after set past))) (e .time) (e .disabled) (read (e .packet)))
+    ∙ ap (λ (n : Next Transport). n .answer) (hear-alike l d (lists-as l _ _ (settings-after set past) same) (e .time) (e .disabled) (read (e .packet)))
 
 pub only-members-count : OnlyMembersCount
 only-members-count set l same events =
     answers-through deviceStep (relistedDevice l) (λ o. Lists l (o .transport .settings)) (λ o e h. leads o e h)
-    (λ o e h n. lists-on l (o .transport) e h n ∙ ap (λ (d : Transport). isIn n (d .settings .vendor)) (sym (stays o e)))
+    (λ o e h. lists-as l _ _ (ap (λ (d : Transport). d .settings) (stays o e)) (lists-on l (o .transport) e h))
     (setUp set) same events
   where
     stays : (o : Device) (e : Event) → deviceStep o e .state .transport ≡ step (o .transport) e .state

@@ -13,7 +13,7 @@ use Rattle.ctaphid.specs.Packets.{Packet, initialization, continuation, 
 use Rattle.ctaphid.specs.Commands.{Command, MSG, CBOR, INIT, PING, CANCEL, ERROR, KEEPALIVE, WINK, LOCK, commandOf, VENDOR}
 use Rattle.ctaphid.specs.Errors.{Error, InvalidCmd, InvalidPar, InvalidLen, InvalidSeq, MsgTimeout, InvalidChannel, code}
 use Rattle.ctaphid.specs.Receiver.{Transaction, Receiver, idle, busy, Turn, channelOf, collect, start, whenIdle, whenOver, onOwn, whenBusy, receive, isOn}
-use Rattle.ctaphid.specs.Transport.{Lock, Transport, Answer, nothing, reply, request, Next, error, notValid, isLocked, isLockedBy, isLockedAgainst, isShut, onInit, onLock, dispatch, settle, settled, hear, withReceiver, knows, obey}
+use Rattle.ctaphid.specs.Transport.{Lock, Transport, Answer, nothing, reply, request, Next, error, notValid, isLocked, isLockedBy, isLockedAgainst, isShut, onInit, onLock, dispatch, settle, settled, hear, withReceiver, obey}
 use Rattle.ctaphid.specs.Demands.{AnyDevice, standard, after, on, TransactionsEnd, LocksEnd, busyOn, Against, Honest, NoneShutOut}
 use Rattle.ctaphid.proofs.Tests.{pick-true, pick-both, pick-known}
 use Rattle.ctaphid.proofs.Histories.{on-read}

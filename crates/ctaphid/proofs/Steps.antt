@@ -1,7 +1,7 @@
 -- What a step of the standard's transport does to a message that is on its way, and to packets of other channels. Assumes nothing.
 use Prim.Native.Nat.{ℕ, _+_, _≤_, _<_}
 use native.Mathlib.Omega.{arith}
-use mathlib.Core.Path.{_≡_, refl, ap, sym, subst}
+use mathlib.Core.Path.{_≡_, refl, ap, sym, subst, _∙_}
 use mathlib.Core.List.{List, _++_}
 use mathlib.Core.Bool.{Bool, true, false, not, true≢false}
 use borrow.Author.Tests.{lt-ltb, le-ltb, le-leb, lt-leb, eq-eqb, ne-eqb, eqb-false, ltb-true, ltb-false, leb-true}
@@ -9,13 +9,13 @@ use lib.Dec.{leb, eqb}
 use lib.ListN.{length, take}
 use Rattle.ctaphid.specs.Choice.{pick, isIn}
 use Rattle.ctaphid.specs.Packets.{Packet, initialization, continuation}
-use Rattle.ctaphid.specs.Commands.{number, among, commandOf, isVendor, VENDOR}
+use Rattle.ctaphid.specs.Commands.{Command, VENDOR, number, isVendor, among, commandOf}
 use Rattle.ctaphid.specs.Errors.{Error, ChannelBusy, InvalidChannel}
 use Rattle.ctaphid.specs.Limits.{timeout}
 use Rattle.ctaphid.specs.Receiver.{Transaction, Receiver, idle, busy, silent, fault, whole, Turn, turn, channelOf, collect, start, whenIdle, whenOver, onOwn, whenBusy, receive, isOn}
 use Rattle.ctaphid.specs.Transport.{Lock, Transport, Next, next, error, broadcast, isAllocated, isValid, notValid, isLocked, isLockedBy, isLockedAgainst, isShut, withReceiver, dispatch, settle, settled, serve, hear, knows, obey, Settings, request}
 use Rattle.ctaphid.specs.Demands.{Message, aPing, aMsg, aWink, aCbor, numberOf, handedOut, HandsOut, Allowed, Permitted, aVendor}
-use Rattle.ctaphid.proofs.Commands.{is-vendor}
+use Rattle.ctaphid.proofs.Commands.{is-vendor, vendor-read}
 use Rattle.ctaphid.proofs.Tests.{pick-true, pick-both, pick-known}
 use Rattle.ctaphid.proofs.Transport.{hear-served}
 
@@ -107,7 +107,7 @@ handed set permitted (aVendor n) a = let range = permitted .vendor n a in (a, is
 
 vendor-dispatched : (d : Transport) (time c n : ℕ) (payload : List ℕ) → Handed (d .settings) (aVendor n) → dispatch d time c (commandOf n) payload ≡ next d (request c (VENDOR n) payload)
 unfolding dispatch knows obey pick
-vendor-dispatched d time c n payload a = simp (a .1, a .0)
+vendor-dispatched d time c n payload a = ap (λ (k : Command). dispatch d time c k payload) (sym (vendor-read n refl (a .1))) ∙ simp (a .0)
 
 pub dispatched : (d : Transport) (time c : ℕ) (m : Message) (payload : List ℕ) → Handed (d .settings) m → dispatch d time c (commandOf (numberOf m)) payload ≡ next d (handedOut m c payload)
 unfolding isVendor dispatch knows obey among pick

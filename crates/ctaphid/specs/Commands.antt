@@ -36,11 +36,11 @@ is a b = eqb (number a) (number b)
 abbrev pub commands : List Command
 commands = MSG ∷ CBOR ∷ INIT ∷ PING ∷ CANCEL ∷ ERROR ∷ KEEPALIVE ∷ WINK ∷ LOCK ∷ []
 
--- the first of these commands that has this number, or ERROR where none has
-unfoldable pub among : List Command → ℕ → Command
-among [] n = ERROR
-among (c ∷ rest) n = pick (eqb n (number c)) c (among rest n)
+-- the first of these commands that has this number, or another where none has
+unfoldable pub among : List Command → ℕ → (other : Command) → Command
+among [] n other = other
+among (c ∷ rest) n other = pick (eqb n (number c)) c (among rest n other)
 
--- a command's number read. That a number which is neither the vendor's nor named reads as ERROR is DIFFERENCES 1
+-- a command's number read: as one that is named, as one of the vendor's, or, where it is neither, as ERROR (DIFFERENCES 1)
 abbrev pub commandOf : ℕ → Command
-commandOf n = pick (isVendor n) (VENDOR n) (among commands n)
+commandOf n = among commands n (pick (isVendor n) (VENDOR n) ERROR)

@@ -1,5 +1,5 @@
 -- The transport: channels, lock and the commands that it serves itself (§11.2.3, §11.2.5, §11.2.6, §11.2.9). Checks 1 to 7 of docs/RULES.md. Assumes nothing.
-use Prim.Native.Nat.{ℕ, _+_, _*_, _≤_}
+use Prim.Native.Nat.{ℕ, _+_, _*_}
 use mathlib.Core.List.{List, [], _∷_, _++_}
 use mathlib.Core.Bool.{Bool, true, false, not}
 use lib.ListN.{length, getD}

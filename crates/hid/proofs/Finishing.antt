@@ -5,15 +5,14 @@ use native.Mathlib.Decide.{ℕ-discrete}
 use mathlib.Core.Path.{_≡_, refl, sym, ap, subst, _∙_}
 use mathlib.Core.List.{List, [], _∷_}
 use mathlib.Core.Bool.{Bool, true, false, cond}
-use borrow.Author.Tests.{eq-eqb, ne-eqb, le-ltb}
-use lib.Dec.{eqb}
+use borrow.Author.Tests.{eq-eqb, ne-eqb}
 use lib.ListN.{length, length-append, length-drop}
 use Rattle.ctaphid.specs.Choice.{pick}
 use Rattle.ctaphid.specs.Commands.{Command, ERROR, number}
 use Rattle.ctaphid.specs.Packets.{read}
 use Rattle.ctaphid.specs.Transport as standard
-use Rattle.ctaphid.specs.Transport.{Settings, Transport, Next, nothing, reply, request, hear}
-use Rattle.ctaphid.specs.Device.{Device, onWink, onMsg, onRequest, answered}
+use Rattle.ctaphid.specs.Transport.{Settings, Transport, nothing, reply, request, hear}
+use Rattle.ctaphid.specs.Device.{onWink, onMsg, onRequest, answered}
 use Rattle.ctaphid.proofs.Refusing.{refused-by, none-refuse}
 use Rattle.ctaphid.proofs.Device.{same-transport}
 use Rattle.ctaphid.proofs.Invariant.{same-settings}

@@ -2,7 +2,7 @@
 use Prim.Native.Nat.{ℕ}
 use mathlib.Core.Path.{_≡_, refl, ap, _∙_}
 use mathlib.Core.List.{List, [], _∷_, map}
-use Rattle.ctaphid.specs.Transport.{Transport, Event, Next, answersOf, step}
+use Rattle.ctaphid.specs.Transport.{Event, Next, answersOf, step}
 use Rattle.ctaphid.specs.Device.{deviceStep}
 use Rattle.ctaphid.proofs.Forgetting.{forgotten}
 use Rattle.ctaphid.proofs.Listing.{run-alike, only-members-count}

@@ -1,5 +1,5 @@
 -- Runs of the code, for which the caller lends both buffers anew at every call: what the caller owes, and that the answers are the standard's. Assumes nothing.
-use Prim.Native.Nat.{ℕ, _≤_, _<_}
+use Prim.Native.Nat.{ℕ, _<_}
 use mathlib.Core.Path.{_≡_}
 use mathlib.Core.List.{List, [], _∷_, map}
 use lib.ListN.{take}

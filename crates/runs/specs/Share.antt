@@ -1,5 +1,4 @@
 -- The code as a device of which demand 3 can be asked, whoever calls it. Assumes nothing.
-use Prim.Native.Nat.{ℕ}
 use mathlib.Core.List.{List, [], _∷_}
 use Rattle.ctaphid.specs.Receiver.{isOn}
 use Rattle.ctaphid.specs.Transport.{Settings, Event, Answer, nothing, Next, next, isLockedBy}

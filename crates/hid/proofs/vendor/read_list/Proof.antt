@@ -3,7 +3,7 @@ use Prim.Native.Nat.{ℕ, _+_, _-_, _≤_}
 use native.Mathlib.Omega.{arith}
 use mathlib.Core.Path.{_≡_, refl, sym, ap, _∙_}
 use lib.Bits.{bitOr}
-use lib.ListN.{length, drop, getD}
+use lib.ListN.{length, drop}
 use Rattle.ctaphid.proofs.Commands.{vendor-range}
 use Rattle.hid.specs.Vendor.{allVendor, bitsWith, bitsOf}
 use Rattle.hid.specs.declared.vendor.Listed.the-variants.{Bits}
