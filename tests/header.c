@@ -390,22 +390,18 @@ static void wrong_vendor_lists(void)
     }
 }
 
-/* The answer to a message on channel 1, whose packets but the last get nothing. */
-static snjofrask_outcome device_answer(snjofrask_device *device, uint8_t cmd, size_t len)
+static snjofrask_outcome step_device(void *device)
 {
-    const size_t last = snjofrask_packet_count(len).len - 1;
-
-    memset(message, 0xEE, sizeof message);
-    memset(reply, 0xEE, sizeof reply);
-    for (size_t index = 0; index < last; index++) {
-        put(1, cmd, len, index);
-        CHECK(is(device_step(device, 0, 0), SNJOFRASK_KIND_NOTHING, 0, 0, 0));
-    }
-    put(1, cmd, len, last);
-    return device_step(device, 0, 0);
+    return device_step((snjofrask_device *)device, 0, 0);
 }
 
-static snjofrask_outcome transport_answer(snjofrask_transport *transport, uint8_t cmd, size_t len)
+static snjofrask_outcome step_transport(void *transport)
+{
+    return transport_step((snjofrask_transport *)transport, 0, 0);
+}
+
+/* The answer to a message on channel 1, whose packets but the last get nothing. */
+static snjofrask_outcome answer_of(snjofrask_outcome (*step)(void *), void *state, uint8_t cmd, size_t len)
 {
     const size_t last = snjofrask_packet_count(len).len - 1;
 
@@ -413,10 +409,10 @@ static snjofrask_outcome transport_answer(snjofrask_transport *transport, uint8_
     memset(reply, 0xEE, sizeof reply);
     for (size_t index = 0; index < last; index++) {
         put(1, cmd, len, index);
-        CHECK(is(transport_step(transport, 0, 0), SNJOFRASK_KIND_NOTHING, 0, 0, 0));
+        CHECK(is(step(state), SNJOFRASK_KIND_NOTHING, 0, 0, 0));
     }
     put(1, cmd, len, last);
-    return transport_step(transport, 0, 0);
+    return step(state);
 }
 
 /* Whether it hands the message out as it was sent. */
@@ -451,11 +447,11 @@ static void vendor_messages(void)
     for (size_t i = 0; i < sizeof lengths / sizeof lengths[0]; i++)
         for (uint8_t cmd = 62; cmd < 128; cmd++) {
             if (cmd == 64 || cmd == 127) {
-                CHECK(hands_out(device_answer(&device, cmd, lengths[i]), cmd, lengths[i]));
-                CHECK(hands_out(transport_answer(&transport, cmd, lengths[i]), cmd, lengths[i]));
+                CHECK(hands_out(answer_of(step_device, &device, cmd, lengths[i]), cmd, lengths[i]));
+                CHECK(hands_out(answer_of(step_transport, &transport, cmd, lengths[i]), cmd, lengths[i]));
             } else {
-                CHECK(is_no_command(device_answer(&device, cmd, lengths[i])));
-                CHECK(is_no_command(transport_answer(&transport, cmd, lengths[i])));
+                CHECK(is_no_command(answer_of(step_device, &device, cmd, lengths[i])));
+                CHECK(is_no_command(answer_of(step_transport, &transport, cmd, lengths[i])));
             }
         }
     CHECK(device.hid.vendor == 0x8000000000000001 && transport.vendor == 0x8000000000000001);
