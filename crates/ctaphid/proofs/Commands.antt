@@ -1,8 +1,9 @@
 -- Numbers read as commands. Assumes nothing.
 use Prim.Native.Nat.{ℕ, _≤_, _<_}
 use native.Mathlib.Omega.{arith}
-use mathlib.Core.Path.{_≡_, refl, sym, subst, _∙_}
-use mathlib.Core.Bool.{Bool, true, false}
+use mathlib.Core.Path.{_≡_, refl, sym, ap, subst, _∙_}
+use mathlib.Core.Bool.{true, false}
+use mathlib.Core.List.{List, [], _∷_}
 use borrow.Author.Tests.{ne-eqb, lt-leb, le-leb, leb-true}
 use lib.Dec.{eqb, leb}
 use Rattle.ctaphid.specs.Choice.{pick}
@@ -23,6 +24,10 @@ pub below-vendor : (n : ℕ) → n < 64 → isVendor n ≡ false
 unfolding isVendor pick
 below-vendor n h = simp (lt-leb 64 n h)
 
+pub above-vendor : (n : ℕ) → 128 ≤ n → isVendor n ≡ false
+unfolding isVendor
+above-vendor n h = simp (lt-leb n 127 (omega (arith, h)), pick-same (leb 64 n) false)
+
 pub from-64 : (n : ℕ) → 64 ≤ n → leb n 127 ≡ isVendor n
 unfolding isVendor pick
 from-64 n h = simp (le-leb 64 n h)
@@ -35,10 +40,9 @@ none-named n v other = simp (past 0x03 refl, past 0x10 refl, past 0x06 refl, pas
     past : (k : ℕ) → leb k 63 ≡ true → eqb n k ≡ false
     past k h = ne-eqb n k (λ e. let r = vendor-range n v in omega (arith, leb-true k 63 h))
 
--- where a call has told that it is one, or not
-pub vendor-read : (n : ℕ) {b : Bool} → b ≡ isVendor n → b ≡ true → VENDOR n ≡ commandOf n
+pub vendor-read : (n : ℕ) → isVendor n ≡ true → VENDOR n ≡ commandOf n
 unfolding pick
-vendor-read n is h = let v = sym is ∙ h in sym (none-named n v _ ∙ simp v)
+vendor-read n v = sym (none-named n v _ ∙ simp v)
 
 -- ---- what can be read
 
@@ -76,11 +80,25 @@ command-of-number ERROR h = refl
 command-of-number KEEPALIVE h = refl
 command-of-number WINK h = refl
 command-of-number LOCK h = refl
-command-of-number (VENDOR n) h = sym (vendor-read n refl h)
+command-of-number (VENDOR n) h = sym (vendor-read n h)
 
--- a number that is neither the vendor's nor any of the others' reads as ERROR
-pub unlisted : (n : ℕ) → (n ≡ 0x01 → ⊥) → (n ≡ 0x03 → ⊥) → (n ≡ 0x04 → ⊥) → (n ≡ 0x06 → ⊥) → (n ≡ 0x08 → ⊥) → (n ≡ 0x10 → ⊥) → (n ≡ 0x11 → ⊥) → (n ≡ 0x3b → ⊥) → {b : Bool} → b ≡ isVendor n → b ≡ false → ERROR ≡ commandOf n
+pub named-read : (c : Command) → Named c → {n : ℕ} → n ≡ number c → c ≡ commandOf n
+named-read c h e = sym (ap commandOf e ∙ command-of-number c h)
+
+-- ---- what is left
+
+-- A, and that the number is none of these commands': as a `match` has it behind its numbers, so in their order
+abbrev pub Behind : Type 0 → List Command → ℕ → Type 0
+Behind A [] n = A
+Behind A (c ∷ rest) n = Behind (A × (n ≡ number c → ⊥)) rest n
+
+behind : (A : Type 0) (cs : List Command) (n : ℕ) → Behind A cs n → A × ((other : Command) → among cs n other ≡ other)
 unfolding pick among
-unlisted n ping msg lock init wink cbor cancel keepalive is other =
-    simp (sym is ∙ other, ne-eqb _ _ ping, ne-eqb _ _ msg, ne-eqb _ _ lock, ne-eqb _ _ init, ne-eqb _ _ wink, ne-eqb _ _ cbor, ne-eqb _ _ cancel, ne-eqb _ _ keepalive)
-    (sym (pick-same (eqb n 0x3f) ERROR))
+behind A [] n h = (h, λ other. refl)
+behind A (c ∷ rest) n h =
+    let p = behind (A × (n ≡ number c → ⊥)) rest n h in (p .0 .0, λ other. simp (ne-eqb n (number c) (p .0 .1)) (p .1 other))
+
+-- a number that is neither a named command's nor the vendor's reads as ERROR
+pub rest-read : (n : ℕ) → Behind (Unit {0}) commands n → isVendor n ≡ false → ERROR ≡ commandOf n
+unfolding pick
+rest-read n h v = sym (behind (Unit {0}) commands n h .1 _ ∙ simp v)

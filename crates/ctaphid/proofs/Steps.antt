@@ -107,7 +107,7 @@ handed set permitted (aVendor n) a = let range = permitted .vendor n a in (a, is
 
 vendor-dispatched : (d : Transport) (time c n : ℕ) (payload : List ℕ) → Handed (d .settings) (aVendor n) → dispatch d time c (commandOf n) payload ≡ next d (request c (VENDOR n) payload)
 unfolding dispatch knows obey pick
-vendor-dispatched d time c n payload a = ap (λ (k : Command). dispatch d time c k payload) (sym (vendor-read n refl (a .1))) ∙ simp (a .0)
+vendor-dispatched d time c n payload a = ap (λ (k : Command). dispatch d time c k payload) (sym (vendor-read n (a .1))) ∙ simp (a .0)
 
 pub dispatched : (d : Transport) (time c : ℕ) (m : Message) (payload : List ℕ) → Handed (d .settings) m → dispatch d time c (commandOf (numberOf m)) payload ≡ next d (handedOut m c payload)
 unfolding isVendor dispatch knows obey among pick

@@ -4,18 +4,18 @@ use Rattle.ctaphid.specs.Commands as standard
 use Rattle.ctaphid.proofs.Commands.{Named, command-of-number}
 use Rattle.packet.specs.Numbers.{commandMeant, commandCase}
 use Rattle.packet.specs.declared.command.CtapHidCommand.{CtapHidCommand}
-use Rattle.packet.specs.declared.command.CtapHidCommand.the-variants.{Ping, Msg, Lock, Init, Wink, Cbor, Cancel, Keepalive, Error, Vendor}
+use Rattle.packet.specs.declared.command.CtapHidCommand.the-variants.{Msg, Cbor, Init, Ping, Cancel, Error, Keepalive, Wink, Lock, Vendor}
 
 pub case-meant : (x : CtapHidCommand) → commandCase (commandMeant x) ≡ x
-case-meant Ping = refl
 case-meant Msg = refl
-case-meant Lock = refl
-case-meant Init = refl
-case-meant Wink = refl
 case-meant Cbor = refl
+case-meant Init = refl
+case-meant Ping = refl
 case-meant Cancel = refl
-case-meant Keepalive = refl
 case-meant Error = refl
+case-meant Keepalive = refl
+case-meant Wink = refl
+case-meant Lock = refl
 case-meant (Vendor n) = refl
 
 pub meant-case : (k : standard.Command) → commandMeant (commandCase k) ≡ k

@@ -4,7 +4,7 @@ use Rattle.ctaphid.specs.Errors as errors
 use Rattle.ctaphid.specs.Capabilities as capabilities
 use Rattle.ctaphid.specs.Refusals as refusals
 use Rattle.packet.specs.declared.command.CtapHidCommand.{CtapHidCommand}
-use Rattle.packet.specs.declared.command.CtapHidCommand.the-variants.{Ping, Msg, Lock, Init, Wink, Cbor, Cancel, Keepalive, Error, Vendor}
+use Rattle.packet.specs.declared.command.CtapHidCommand.the-variants.{Msg, Cbor, Init, Ping, Cancel, Error, Keepalive, Wink, Lock, Vendor}
 use Rattle.packet.specs.declared.error.CtapHidError.{CtapHidError}
 use Rattle.packet.specs.declared.error.CtapHidError.the-variants.{InvalidCmd, InvalidPar, InvalidLen, InvalidSeq, MsgTimeout, ChannelBusy, InvalidChannel}
 use Rattle.packet.specs.declared.capability.Capability.{Capability}
@@ -13,15 +13,15 @@ use Rattle.packet.specs.declared.refusal.Refusal.{Refusal}
 use Rattle.packet.specs.declared.refusal.Refusal.the-variants.{PacketSize, ShortBuffer, Unsound, Time, Maximum, Index, LongPayload, LongPing, Sequence, LongReply, NotInit, Command, Vendor as NotVendor}
 
 abbrev pub commandMeant : CtapHidCommand → standard.Command
-commandMeant Ping = standard.PING
 commandMeant Msg = standard.MSG
-commandMeant Lock = standard.LOCK
-commandMeant Init = standard.INIT
-commandMeant Wink = standard.WINK
 commandMeant Cbor = standard.CBOR
+commandMeant Init = standard.INIT
+commandMeant Ping = standard.PING
 commandMeant Cancel = standard.CANCEL
-commandMeant Keepalive = standard.KEEPALIVE
 commandMeant Error = standard.ERROR
+commandMeant Keepalive = standard.KEEPALIVE
+commandMeant Wink = standard.WINK
+commandMeant Lock = standard.LOCK
 commandMeant (Vendor n) = standard.VENDOR n
 
 -- and the case for each of the standard's commands

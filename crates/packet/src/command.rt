@@ -1,69 +1,64 @@
-// The commands, and their numbers both ways.
+// The commands, and their numbers both ways, in the standard's order: section 11.2.9.1, mandatory; 11.2.9.2, optional; 11.2.9.3, the vendor's own.
 ghost use mathlib.Core.Path.{_≡_};
 ghost use Rattle.ctaphid.specs.Commands.{commandOf, number, isVendor};
 ghost use Rattle.packet.specs.Numbers.{commandMeant};
 
 pub enum CtapHidCommand {
-    Ping,
     Msg,
-    Lock,
-    Init,
-    Wink,
     Cbor,
+    Init,
+    Ping,
     Cancel,
-    Keepalive,
     Error,
+    Keepalive,
+    Wink,
+    Lock,
     // One of the vendor's, with its number.
     Vendor(u8),
 }
 
 impl CtapHidCommand {
-    pub const PING: u8 = 0x01;
-
     pub const MSG: u8 = 0x03;
-
-    pub const LOCK: u8 = 0x04;
-
-    pub const INIT: u8 = 0x06;
-
-    pub const WINK: u8 = 0x08;
 
     pub const CBOR: u8 = 0x10;
 
+    pub const INIT: u8 = 0x06;
+
+    pub const PING: u8 = 0x01;
+
     pub const CANCEL: u8 = 0x11;
+
+    pub const ERROR: u8 = 0x3F;
 
     pub const KEEPALIVE: u8 = 0x3B;
 
-    pub const ERROR: u8 = 0x3F;
+    pub const WINK: u8 = 0x08;
+
+    pub const LOCK: u8 = 0x04;
 
     pub const VENDOR_FIRST: u8 = 0x40;
 
     pub const VENDOR_LAST: u8 = 0x7F;
 
-    // Any other number reads as Error, as in the Rust (docs/DIFFERENCES.md, 1).
     pub fn from_u8(cmd: u8) -> Self
         ensures { λ r. ⌜ commandMeant r ≡ commandOf cmd ⌝ }
     {
-        if cmd == Self::PING {
-            CtapHidCommand::Ping
-        } else if cmd == Self::MSG {
-            CtapHidCommand::Msg
-        } else if cmd == Self::LOCK {
-            CtapHidCommand::Lock
-        } else if cmd == Self::INIT {
-            CtapHidCommand::Init
-        } else if cmd == Self::WINK {
-            CtapHidCommand::Wink
-        } else if cmd == Self::CBOR {
-            CtapHidCommand::Cbor
-        } else if cmd == Self::CANCEL {
-            CtapHidCommand::Cancel
-        } else if cmd == Self::KEEPALIVE {
-            CtapHidCommand::Keepalive
-        } else if Self::is_vendor(cmd) {
-            CtapHidCommand::Vendor(cmd)
-        } else {
-            CtapHidCommand::Error
+        match cmd {
+            // Section 11.2.9.1.
+            0x03 => CtapHidCommand::Msg,
+            0x10 => CtapHidCommand::Cbor,
+            0x06 => CtapHidCommand::Init,
+            0x01 => CtapHidCommand::Ping,
+            0x11 => CtapHidCommand::Cancel,
+            0x3F => CtapHidCommand::Error,
+            0x3B => CtapHidCommand::Keepalive,
+            // Section 11.2.9.2.
+            0x08 => CtapHidCommand::Wink,
+            0x04 => CtapHidCommand::Lock,
+            // Section 11.2.9.3.
+            0x40..=0x7F => CtapHidCommand::Vendor(cmd),
+            // The rest reads as Error, as in the Rust (docs/DIFFERENCES.md, 1).
+            _ => CtapHidCommand::Error,
         }
     }
 
@@ -81,15 +76,15 @@ impl CtapHidCommand {
         ensures { λ r. ⌜ r ≡ number (commandMeant self) ⌝ }
     {
         match self {
-            CtapHidCommand::Ping => Self::PING,
             CtapHidCommand::Msg => Self::MSG,
-            CtapHidCommand::Lock => Self::LOCK,
-            CtapHidCommand::Init => Self::INIT,
-            CtapHidCommand::Wink => Self::WINK,
             CtapHidCommand::Cbor => Self::CBOR,
+            CtapHidCommand::Init => Self::INIT,
+            CtapHidCommand::Ping => Self::PING,
             CtapHidCommand::Cancel => Self::CANCEL,
-            CtapHidCommand::Keepalive => Self::KEEPALIVE,
             CtapHidCommand::Error => Self::ERROR,
+            CtapHidCommand::Keepalive => Self::KEEPALIVE,
+            CtapHidCommand::Wink => Self::WINK,
+            CtapHidCommand::Lock => Self::LOCK,
             CtapHidCommand::Vendor(number) => number,
         }
     }

@@ -1,59 +1,59 @@
--- `from_u8` meets its contract: where a test holds the number is known and the table computes, and past the last test it is none of the table's but ERROR's.
+-- `from_u8` meets its contract: each line reads its command's number, and what is behind them all is the vendor's or ERROR.
 -- Assumes nothing.
-use Rattle.ctaphid.specs.Choice.{pick}
-use Rattle.ctaphid.specs.Commands.{isVendor, among}
-use Rattle.ctaphid.proofs.Commands.{vendor-read, unlisted}
+use Prim.Native.Nat.{ℕ, _≤_, _<_}
+use native.Mathlib.Omega.{arith}
+use mathlib.Core.Path.{_≡_}
+use Rattle.ctaphid.specs.Commands.{MSG, CBOR, INIT, PING, CANCEL, ERROR, KEEPALIVE, WINK, LOCK, VENDOR, commandOf}
+use Rattle.ctaphid.proofs.Commands.{named-read, vendor-read, rest-read, is-vendor, below-vendor, above-vendor}
 use Rattle.packet.proofs.command.CtapHidCommand.from_u8.Statement.{statement}
 use Rattle.packet.proofs.command.CtapHidCommand.from_u8.Tie as tie
 use Rattle.packet.proofs.command.CtapHidCommand.from_u8.Reads as reads
 use Rattle.packet.proofs.command.CtapHidCommand.from_u8.Lts as lts
 
-is-vendor-requires : tie.Need-is-vendor-requires
-is-vendor-requires c κs = tt
-
 returns : tie.Need-returns
-unfolding isVendor pick among
-returns c = rw (c .if1 .taken)
+returns c = named-read MSG tt (c .match .keys1)
 
 returns-2 : tie.Need-returns-2
-unfolding isVendor pick among
-returns-2 c = rw (c .if2 .taken)
+returns-2 c = named-read CBOR tt (c .match .keys2)
 
 returns-3 : tie.Need-returns-3
-unfolding isVendor pick among
-returns-3 c = rw (c .if3 .taken)
+returns-3 c = named-read INIT tt (c .match .keys3)
 
 returns-4 : tie.Need-returns-4
-unfolding isVendor pick among
-returns-4 c = rw (c .if4 .taken)
+returns-4 c = named-read PING tt (c .match .keys4)
 
 returns-5 : tie.Need-returns-5
-unfolding isVendor pick among
-returns-5 c = rw (c .if5 .taken)
+returns-5 c = named-read CANCEL tt (c .match .keys5)
 
 returns-6 : tie.Need-returns-6
-unfolding isVendor pick among
-returns-6 c = rw (c .if6 .taken)
+returns-6 c = named-read ERROR tt (c .match .keys6)
 
 returns-7 : tie.Need-returns-7
-unfolding isVendor pick among
-returns-7 c = rw (c .if7 .taken)
+returns-7 c = named-read KEEPALIVE tt (c .match .keys7)
 
 returns-8 : tie.Need-returns-8
-unfolding isVendor pick among
-returns-8 c = rw (c .if8 .taken)
+returns-8 c = named-read WINK tt (c .match .keys8)
 
 returns-9 : tie.Need-returns-9
-returns-9 c = search vendor-read
+returns-9 c = named-read LOCK tt (c .match .keys9)
+
+-- 0x3F has a line of its own, so the code tests for 63 and up
+past-error : (n : ℕ) → 63 ≤ n → (n ≡ 0x3f → ⊥) → n < 128 → VENDOR n ≡ commandOf n
+past-error n h other k = vendor-read n (is-vendor n (omega (arith, h, other)) (omega (arith, k)))
 
 returns-10 : tie.Need-returns-10
-returns-10 c = search unlisted
+returns-10 c = search past-error
+
+returns-11 : tie.Need-returns-11
+returns-11 c = rest-read _ (c .before .match .rest) (below-vendor _ (omega arith))
+
+returns-12 : tie.Need-returns-12
+returns-12 c = rest-read _ (c .before .before .match .rest) (above-vendor _ (omega arith))
 
 pub from-u8-spec : {M : Type 1} → statement M
 from-u8-spec =
     tie.close
     (tie.spec
-    is-vendor-requires
     returns
     returns-2
     returns-3
@@ -63,4 +63,6 @@ from-u8-spec =
     returns-7
     returns-8
     returns-9
-    returns-10)
+    returns-10
+    returns-11
+    returns-12)
