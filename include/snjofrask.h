@@ -79,9 +79,9 @@ extern "C" {
 /* ---- numbers */
 
 /* Of the library: header and archive belong together. */
-#define SNJOFRASK_VERSION "0.4.0"
+#define SNJOFRASK_VERSION "0.5.0"
 #define SNJOFRASK_VERSION_MAJOR 0
-#define SNJOFRASK_VERSION_MINOR 4
+#define SNJOFRASK_VERSION_MINOR 5
 #define SNJOFRASK_VERSION_PATCH 0
 
 /* Limits: bytes and milliseconds. */
@@ -105,16 +105,16 @@ extern "C" {
 /* The channel on which a host asks for one of its own. */
 #define SNJOFRASK_CHANNEL_BROADCAST 0xFFFFFFFF
 
-/* Commands. A device takes any other for ERROR, but for the vendor's. */
-#define SNJOFRASK_CMD_PING 0x01
+/* Commands, in the order of CTAP 2.1, section 11.2.9. A device takes any other for ERROR, but for the vendor's. */
 #define SNJOFRASK_CMD_MSG 0x03
-#define SNJOFRASK_CMD_LOCK 0x04
-#define SNJOFRASK_CMD_INIT 0x06
-#define SNJOFRASK_CMD_WINK 0x08
 #define SNJOFRASK_CMD_CBOR 0x10
+#define SNJOFRASK_CMD_INIT 0x06
+#define SNJOFRASK_CMD_PING 0x01
 #define SNJOFRASK_CMD_CANCEL 0x11
-#define SNJOFRASK_CMD_KEEPALIVE 0x3B
 #define SNJOFRASK_CMD_ERROR 0x3F
+#define SNJOFRASK_CMD_KEEPALIVE 0x3B
+#define SNJOFRASK_CMD_WINK 0x08
+#define SNJOFRASK_CMD_LOCK 0x04
 
 /* Vendor commands, the first and the last. Set-up says which of them a device knows; any other is told INVALID_CMD. */
 #define SNJOFRASK_CMD_VENDOR_FIRST 0x40

@@ -9,27 +9,27 @@ pub type ChannelID = [u8; 4];
 /// The channel on which a host asks for one of its own.
 pub const CHANNEL_BROADCAST: ChannelID = [0xFF; 4];
 
-/// The commands.
+/// The commands, in the order of CTAP 2.1, section 11.2.9.
 #[derive(Clone, Copy, Debug, PartialEq, Eq)]
 pub enum CtapHidCommand {
-    /// Echoed.
-    Ping,
     /// U2F.
     Msg,
-    /// Keeps other channels out for some seconds.
-    Lock,
-    /// Asks for a channel, or gets one in step again.
-    Init,
-    /// Asks for a visible sign.
-    Wink,
     /// CTAP2.
     Cbor,
+    /// Asks for a channel, or gets one in step again.
+    Init,
+    /// Echoed.
+    Ping,
     /// Gives a request up.
     Cancel,
-    /// Not done yet.
-    Keepalive,
     /// An error, and any other number.
     Error,
+    /// Not done yet.
+    Keepalive,
+    /// Asks for a visible sign.
+    Wink,
+    /// Keeps other channels out for some seconds.
+    Lock,
     /// One of the vendor's. A device knows those that it was set up with.
     Vendor(VendorCommand),
 }
@@ -50,15 +50,15 @@ impl CtapHidCommand {
     /// ```
     pub const fn number(self) -> u8 {
         match self {
-            CtapHidCommand::Ping => 0x01,
             CtapHidCommand::Msg => 0x03,
-            CtapHidCommand::Lock => 0x04,
-            CtapHidCommand::Init => 0x06,
-            CtapHidCommand::Wink => 0x08,
             CtapHidCommand::Cbor => 0x10,
+            CtapHidCommand::Init => 0x06,
+            CtapHidCommand::Ping => 0x01,
             CtapHidCommand::Cancel => 0x11,
-            CtapHidCommand::Keepalive => 0x3B,
             CtapHidCommand::Error => 0x3F,
+            CtapHidCommand::Keepalive => 0x3B,
+            CtapHidCommand::Wink => 0x08,
+            CtapHidCommand::Lock => 0x04,
             CtapHidCommand::Vendor(vendor) => vendor.number(),
         }
     }
@@ -67,18 +67,17 @@ impl CtapHidCommand {
 impl From<u8> for CtapHidCommand {
     fn from(cmd: u8) -> Self {
         match cmd {
-            0x01 => CtapHidCommand::Ping,
             0x03 => CtapHidCommand::Msg,
-            0x04 => CtapHidCommand::Lock,
-            0x06 => CtapHidCommand::Init,
-            0x08 => CtapHidCommand::Wink,
             0x10 => CtapHidCommand::Cbor,
+            0x06 => CtapHidCommand::Init,
+            0x01 => CtapHidCommand::Ping,
             0x11 => CtapHidCommand::Cancel,
+            0x3F => CtapHidCommand::Error,
             0x3B => CtapHidCommand::Keepalive,
-            _ => match VendorCommand::new(cmd) {
-                Some(vendor) => CtapHidCommand::Vendor(vendor),
-                None => CtapHidCommand::Error,
-            },
+            0x08 => CtapHidCommand::Wink,
+            0x04 => CtapHidCommand::Lock,
+            0x40..=0x7F => CtapHidCommand::Vendor(VendorCommand(cmd)),
+            _ => CtapHidCommand::Error,
         }
     }
 }
