@@ -60,6 +60,34 @@ fn error(cid: ChannelID, error: CtapHidError) -> Option<(u8, Vec<u8>)> {
     Some((message.cmd.number(), message.payload.to_vec()))
 }
 
+/// The numbers as docs/RULES.md has them.
+const COMMANDS: [(u8, CtapHidCommand); 9] = [
+    (3, CtapHidCommand::Msg),
+    (16, CtapHidCommand::Cbor),
+    (6, CtapHidCommand::Init),
+    (1, CtapHidCommand::Ping),
+    (17, CtapHidCommand::Cancel),
+    (63, CtapHidCommand::Error),
+    (59, CtapHidCommand::Keepalive),
+    (8, CtapHidCommand::Wink),
+    (4, CtapHidCommand::Lock),
+];
+
+#[test]
+fn every_number_is_read() {
+    for number in 0..=u8::MAX {
+        let cmd = CtapHidCommand::from(number);
+        if let Some((_, named)) = COMMANDS.iter().find(|(n, _)| *n == number) {
+            assert_eq!((cmd, cmd.number()), (*named, number));
+        } else if (64..=127).contains(&number) {
+            assert!(matches!(cmd, CtapHidCommand::Vendor(vendor) if vendor.number() == number));
+            assert_eq!(cmd.number(), number);
+        } else {
+            assert_eq!(cmd, CtapHidCommand::Error, "{number}");
+        }
+    }
+}
+
 #[test]
 fn every_message_comes_back() {
     let mut buffer = [0; LARGEST_PAYLOAD];
