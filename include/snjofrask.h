@@ -52,7 +52,7 @@
 #elif defined(__ARM_EABI__) && defined(__thumb2__) && !defined(__ARM_BIG_ENDIAN) && __ARM_ARCH_PROFILE == 'M' && \
     (__ARM_ARCH >= 8 || defined(__ARM_FEATURE_DSP))
 #define SNJOFRASK_ENTRY __attribute__((pcs("aapcs")))
-#define SNJOFRASK_STACK_SIZE 552
+#define SNJOFRASK_STACK_SIZE 544
 #elif defined(__riscv) && __riscv_xlen == 32 && !defined(__riscv_32e) && defined(__riscv_mul) && defined(__riscv_compressed) && \
     defined(__riscv_float_abi_soft)
 #define SNJOFRASK_ENTRY

@@ -9,8 +9,6 @@ use Rattle.ctaphid.specs.Commands.{MSG, CBOR, INIT, PING, CANCEL, ERROR, KEEPAL
 use Rattle.ctaphid.proofs.Commands.{named-read, vendor-read, rest-read, is-vendor, below-vendor, above-vendor}
 use Rattle.packet.proofs.command.CtapHidCommand.from_u8.Statement.{statement}
 use Rattle.packet.proofs.command.CtapHidCommand.from_u8.Tie as tie
-use Rattle.packet.proofs.command.CtapHidCommand.from_u8.Reads as reads
-use Rattle.packet.proofs.command.CtapHidCommand.from_u8.Lts as lts
 
 returns : tie.Need-returns
 returns c = named-read MSG tt (c .match .keys1)
