@@ -38,14 +38,14 @@ returns-9 : tie.Need-returns-9
 returns-9 c = named-read LOCK tt (c .match .keys9)
 
 -- 0x3F has a line of its own, so the code asks for 63 and up where it means 64 and up
-from-63 : (n : ℕ) → 63 ≤ n → (n ≡ 0x3f → ⊥) → n ≤ 127 → VENDOR n ≡ commandOf n
-from-63 n h other k = vendor-read n (is-vendor n (omega (arith, h, other)) k)
+from-63 : (n : ℕ) → 63 ≤ n → (n ≡ 0x3f → ⊥) → n < 128 → VENDOR n ≡ commandOf n
+from-63 n h other k = vendor-read n (is-vendor n (omega (arith, h, other)) (omega (arith, k)))
 
 below-63 : (n : ℕ) → n < 63 → isVendor n ≡ false
 below-63 n h = below-vendor n (omega (arith, h))
 
 returns-10 : tie.Need-returns-10
-returns-10 c = from-63 _ (c .before .if1 .left) (search needs) (omega arith)
+returns-10 c = from-63 _ (c .before .if1 .left) (search needs) (c .if2 .taken)
 
 returns-11 : tie.Need-returns-11
 returns-11 c = rest-read _ (c .before .match .rest) (below-63 _ (c .if1 .taken))
