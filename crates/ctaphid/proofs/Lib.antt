@@ -9,6 +9,7 @@ pub mod Device
 pub mod Forgetting
 pub mod Invariant
 pub mod Steps
+pub mod StillDue
 pub mod Deliver
 pub mod Listing
 pub mod Replies

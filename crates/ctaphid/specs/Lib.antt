@@ -12,5 +12,6 @@ pub mod Host
 pub mod Refusals
 pub mod Rows
 pub mod Demands
+pub mod StillDue
 pub mod Wrong
 pub mod WrongBounds

@@ -1,11 +1,12 @@
 -- §11.2.5: the receiving side. A transaction holds the bytes that it has collected, and a message that is whole holds its payload. Assumes nothing.
-use Prim.Native.Nat.{ℕ, _+_}
+use Prim.Native.Nat.{ℕ, _+_, _-_}
 use mathlib.Core.List.{List, [], _++_}
 use mathlib.Core.Bool.{Bool, false}
 use lib.ListN.{length, take}
 use lib.Dec.{ltb, leb, eqb}
 use Rattle.ctaphid.specs.Choice.{pick}
 use Rattle.ctaphid.specs.Packets.{Packet, initialization, continuation}
+use Rattle.ctaphid.specs.Messages.{count}
 use Rattle.ctaphid.specs.Commands.{INIT, number}
 use Rattle.ctaphid.specs.Errors.{Error, InvalidLen, InvalidSeq, MsgTimeout, ChannelBusy}
 use Rattle.ctaphid.specs.Limits.{timeout}
@@ -111,3 +112,9 @@ receive max time (busy t) p = pick (leb (t .deadline) time) (whenOver max time t
 unfoldable pub isOn : Receiver → (channel time : ℕ) → Bool
 isOn idle c time = false
 isOn (busy t) c time = pick (eqb (t .channel) c) (ltb time (t .deadline)) false
+
+-- how many continuation packets a transaction still needs: the packets of its declared length (§11.2.4), less those taken, which are the initialization packet and
+-- the continuation packets before the one that is due. Without a transaction it is 0. One whose time is over keeps its number until a packet drops it (DECISIONS 45)
+abbrev pub stillDue : Receiver → ℕ
+stillDue idle = 0
+stillDue (busy t) = count 57 59 (t .declared) - (1 + t .due)
