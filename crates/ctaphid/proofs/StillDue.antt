@@ -65,17 +65,20 @@ unfolding continuations
 first-comes t now field rest e events w =
     (w .1, ⊎-elim (λ o. inl (record { packet = o .0; enabled = o .1; live = o .2 }, o .3)) inr (w .2))
 
-none-comes : (t : Transaction) (now : ℕ) (e : Event) (events : List Event) → Comes t now [] (e ∷ events) → ⊥
+-- where packets are to come there are events, and where there are events packets are to come
+pub none-due : (t : Transaction) (now : ℕ) (fields : List (List ℕ)) → Comes t now fields [] → length fields ≡ 0
 unfolding continuations
-none-comes t now e events w = w
+none-due t now [] w = refl
+none-due t now (field ∷ rest) w = let z : _≡_ {A = ℕ} 0 1 = cc in absurd (omega arith)
 
-some-comes : (t : Transaction) (now : ℕ) (field : List ℕ) (rest : List (List ℕ)) → Comes t now (field ∷ rest) [] → ⊥
+pub some-due : (t : Transaction) (now : ℕ) (fields : List (List ℕ)) (e : Event) (events : List Event) → Comes t now fields (e ∷ events) → 0 < length fields
 unfolding continuations
-some-comes t now field rest w = let z : _≡_ {A = ℕ} 0 1 = cc in omega arith
+some-due t now [] e events w = absurd w
+some-due t now (field ∷ rest) e events w = omega arith
 
 -- while a packet is still to come, the deadline is not reached
 soon : (t : Transaction) (now : ℕ) (field : List ℕ) (rest : List (List ℕ)) (events : List Event) → Comes t now (field ∷ rest) events → now < t .deadline
-soon t now field rest [] w = absurd (some-comes t now field rest w)
+soon t now field rest [] w = absurd (omega (arith, none-due t now (field ∷ rest) w))
 soon t now field rest (e ∷ events) w =
     let s = first-comes t now field rest e events w in
     ⊎-elim (λ o. omega (arith, s .0, o .0 .live)) (λ o. omega (arith, s .0, soon t (e .time) field rest events (o .1))) (s .1)
@@ -135,7 +138,7 @@ module _ (d : Transport) (t : Transaction) (now : ℕ) (k : Midst d t now) (e : 
   others : (on e ≡ t .channel → ⊥) → e .time < t .deadline → Same d (step d e)
   others h live = other-same d (e .time) (e .disabled) (read (e .packet)) t (k .busied) live (λ o. h (sym (on-read e) ∙ o))
 
-hush-nothing : (c : ℕ) (e : Event) → Hushed c e nothing
+pub hush-nothing : (c : ℕ) (e : Event) → Hushed c e nothing
 hush-nothing c e = record { own = λ i. refl; other = λ i a. a }
 
 hush-other : (c : ℕ) (e : Event) → (on e ≡ c → ⊥) → {d : Transport} {n : Next Transport} → Same d n → Hushed c e (n .answer)
@@ -150,8 +153,8 @@ Waits c due fewer events d = AllHushed d c events × (stillDue (afterwards d eve
 fewer : (events : List Event) (d : Transport) (t : Transaction) (now : ℕ) (fields : List (List ℕ)) → Midst d t now → Fields fields → Comes t now fields events
     → length fields < stillDue (busy t) → Waits (t .channel) (stillDue (busy t)) (length fields) events d
 fewer [] d t now [] k sizes w h = (tt, simp (k .busied) (omega arith))
-fewer [] d t now (field ∷ rest) k sizes w h = absurd (some-comes t now field rest w)
-fewer (e ∷ events) d t now [] k sizes w h = absurd (none-comes t now e events w)
+fewer [] d t now (field ∷ rest) k sizes w h = absurd (omega (arith, none-due t now (field ∷ rest) w))
+fewer (e ∷ events) d t now [] k sizes w h = absurd (omega (arith, some-due t now [] e events w))
 fewer (e ∷ events) d t now (field ∷ rest) k sizes w h =
     let s = first-comes t now field rest e events w in
     ⊎-elim
@@ -179,7 +182,7 @@ unfolding flatten
 completed-last t field = ap (λ (l : List ℕ). take (t .declared) (t .collected ++ l)) (sym (append-nil field))
 
 -- a step, and what is to be shown of it and of the events after it
-abbrev Then : ℕ → Answer → Event → Event → List Event → Next Transport → Type 0
+abbrev pub Then : ℕ → Answer → Event → Event → List Event → Next Transport → Type 0
 Then c a e f events n = Hushed c e (n .answer) × Ends standard (n .state) c a (f ∷ events)
 
 module _ (m : Message) where
@@ -201,18 +204,18 @@ module _ (m : Message) where
   pub all : (events : List Event) (d : Transport) (t : Transaction) (now : ℕ) (fields : List (List ℕ)) → Midst d t now → Handed (d .settings) m → t .command ≡ numberOf m → Fields fields → Comes t now fields events
       → length fields ≡ stillDue (busy t) → Goal d t fields events
   all events d t now [] k ok command sizes w h = absurd (omega (arith, h, k .bytes, k .below))
-  all [] d t now (field ∷ rest) k ok command sizes w h = absurd (some-comes t now field rest w)
+  all [] d t now (field ∷ rest) k ok command sizes w h = absurd (omega (arith, none-due t now (field ∷ rest) w))
   all (e ∷ []) d t now (field ∷ []) k ok command sizes w h =
       let s = first-comes t now field [] e [] w in
-      ⊎-elim (λ (o : Own t field [] e []). last d t now k ok command e (s .0) field (sizes .0) (o .0) (sym h)) (λ (o : Another t (field ∷ []) e []). absurd (some-comes t (e .time) field [] (o .1))) (s .1)
+      ⊎-elim (λ (o : Own t field [] e []). last d t now k ok command e (s .0) field (sizes .0) (o .0) (sym h)) (λ (o : Another t (field ∷ []) e []). absurd (omega (arith, none-due t (e .time) (field ∷ []) (o .1)))) (s .1)
   all (e ∷ []) d t now (field ∷ (g ∷ rest)) k ok command sizes w h =
       let s = first-comes t now field (g ∷ rest) e [] w in
-      ⊎-elim (λ (o : Own t field (g ∷ rest) e []). absurd (some-comes (grown t (e .time) field) (e .time) g rest (o .1))) (λ (o : Another t (field ∷ (g ∷ rest)) e []). absurd (some-comes t (e .time) field (g ∷ rest) (o .1))) (s .1)
+      ⊎-elim (λ (o : Own t field (g ∷ rest) e []). absurd (omega (arith, none-due (grown t (e .time) field) (e .time) (g ∷ rest) (o .1)))) (λ (o : Another t (field ∷ (g ∷ rest)) e []). absurd (omega (arith, none-due t (e .time) (field ∷ (g ∷ rest)) (o .1)))) (s .1)
   all (e ∷ (f ∷ events)) d t now (field ∷ rest) k ok command sizes w h =
       let s = first-comes t now field rest e (f ∷ events) w in
       ⊎-elim
       (λ (o : Own t field rest e (f ∷ events)).
-      let more : 1 < stillDue (busy t) = omega (arith, h, goes-on rest (grown t (e .time) field) (e .time) (o .1)) in
+      let more : 1 < stillDue (busy t) = omega (arith, h, some-due (grown t (e .time) field) (e .time) rest f events (o .1)) in
       let is = due-step d t now k e (s .0) field (sizes .0) (o .0) more in
       let q = all (f ∷ events) _ (grown t (e .time) field) (e .time) rest (is .midst) ok command (sizes .1) (o .1) (omega (arith, h, is .one-less)) in
       subst (λ (n : Next Transport). Then (t .channel) (handedOut m (t .channel) (completed t (field ∷ rest))) e f events n) (sym (is .stepped))
@@ -222,10 +225,6 @@ module _ (m : Message) where
       let q = all (f ∷ events) d t (e .time) (field ∷ rest) (still d t now (e .time) (s .0) k) ok command sizes (o .1) h in
       (hush-other (t .channel) e (o .0) same, subst (λ (x : Transport). Goal x t (field ∷ rest) (f ∷ events)) (sym (same .state)) q))
       (s .1)
-    where
-      goes-on : (fields : List (List ℕ)) (u : Transaction) (time : ℕ) → Comes u time fields (f ∷ events) → 0 < length fields
-      goes-on [] u time v = absurd (none-comes u time f events v)
-      goes-on (g ∷ more) u time v = omega arith
 
 -- ---- after any history
 pub due-is-outstanding : DueIsOutstanding

@@ -11,7 +11,7 @@ use Rattle.ctaphid.specs.Commands.{MSG, CBOR, INIT, PING, CANCEL, ERROR,
 use Rattle.ctaphid.specs.Errors.{InvalidCmd, InvalidPar, InvalidLen, InvalidSeq, MsgTimeout, ChannelBusy, LockRequired, InvalidChannel, Other, code}
 use Rattle.ctaphid.specs.Capabilities.{wink, cbor, nmsg, bit, capabilities}
 use Rattle.ctaphid.specs.Limits.{packetSize, largest, shortReply, timeout, winkTime, lastTime}
-use Rattle.ctaphid.specs.Receiver.{Receiver, idle, isOn}
+use Rattle.ctaphid.specs.Receiver.{Receiver, idle, isOn, stillDue}
 use Rattle.ctaphid.specs.Transport.{Settings, Lock, free, Transport, fresh, Event, Answer, nothing, reply, request, isValid, isLocked, isLockedBy, isLockedAgainst, withAllocated, withLock, withReceiver, step, run}
 use Rattle.ctaphid.specs.Refusals.{PacketSize, ShortBuffer, Unsound, Time, Maximum, Index, LongPayload, LongPing, Sequence, LongReply, NotInit, Command, Vendor, refusalNumber}
 use Rattle.ctaphid.specs.Device.{Device, device, setUp, deviceStep, deviceRun, isWinking}
@@ -71,6 +71,14 @@ answers o events = map shown (deviceRun o events)
 abbrev pub left : Device → List Event → Device
 left o [] = o
 left o (e ∷ rest) = left (deviceStep o e .state) rest
+
+-- how many continuations are still due then, and after each event of a run
+abbrev pub due : Device → List Event → ℕ
+due o events = stillDue (left o events .transport .receiver)
+
+abbrev pub dues : Device → List Event → List ℕ
+dues o [] = []
+dues o (e ∷ rest) = due o (e ∷ []) ∷ dues (deviceStep o e .state) rest
 
 -- ---- packets, by their front bytes
 
@@ -338,6 +346,24 @@ pub record FurtherRows : Type 0 where
   -- a broadcast INIT declared 60 blocks all others for 100 ms, and its continuation gets nothing
   pub blocks : answers (having 2) (at 0 (everywhere ++ (0x86 ∷ 0 ∷ 60 ∷ [])) ∷ at 99 (pingOn 1) ∷ at 99 everywhere ∷ at 100 (pingOn 1) ∷ [])
       ≡ none ∷ told 1 6 ∷ none ∷ echo 1 ∷ []
+  -- continuations still due: none at set-up, and after a first packet those of its declared length: of 0, 57, 58, 116, 117, 7,609 and 7,610 bytes
+  pub due-none : due (setUp full) [] ≡ 0
+  pub due-first : map (λ (n : List ℕ). due (having 2) (at 0 (on 1 ++ (0x81 ∷ n)) ∷ []))
+      ((0 ∷ 0 ∷ []) ∷ (0 ∷ 57 ∷ []) ∷ (0 ∷ 58 ∷ []) ∷ (0 ∷ 116 ∷ []) ∷ (0 ∷ 117 ∷ []) ∷ (0x1d ∷ 0xb9 ∷ []) ∷ (0x1d ∷ 0xba ∷ []) ∷ [])
+      ≡ 0 ∷ 0 ∷ 1 ∷ 1 ∷ 2 ∷ 128 ∷ 0 ∷ []
+  -- one fewer with each that is taken, until the message is whole
+  pub due-down : dues (having 2) (at 0 begin118 ∷ at 1 (goOn 0) ∷ at 2 (goOn 1) ∷ at 3 (goOn 2) ∷ []) ≡ 2 ∷ 1 ∷ 0 ∷ 0 ∷ []
+  -- as many while others are answered, on channels that are valid or not, and while disabled
+  pub due-stays : dues (having 2)
+      (at 0 begin118 ∷ at 1 (pingOn 2) ∷ at 1 (on 2) ∷ at 1 (initOn everywhere) ∷ at 1 (pingOn 3) ∷ at 1 (on 3) ∷ shutAt 1 (goOn 0) ∷ at 2 (goOn 0) ∷ at 3 (pingOn 2) ∷ [])
+      ≡ 2 ∷ 2 ∷ 2 ∷ 2 ∷ 2 ∷ 2 ∷ 2 ∷ 1 ∷ 1 ∷ []
+  -- none when it is dropped: by a wrong number, an own first packet, an own INIT; by one of 60 bytes as many as that needs
+  pub due-dropped : map (λ (front : List ℕ). due (having 2) (at 0 begin118 ∷ at 1 front ∷ [])) (goOn 1 ∷ pingOn 1 ∷ initOn (on 1) ∷ (on 1 ++ (0x86 ∷ 0 ∷ 60 ∷ [])) ∷ [])
+      ≡ 0 ∷ 0 ∷ 0 ∷ 1 ∷ []
+  -- past the deadline as many until check 3 drops it, which a packet does not get to while disabled, on a channel that isn't valid, or against a lock
+  pub due-late : dues (having 2) (at 0 begin118 ∷ shutAt 100 (goOn 0) ∷ shutAt 101 (pingOn 2) ∷ at 102 (pingOn 3) ∷ at 103 (on 3) ∷ at 104 (on 2) ∷ []) ≡ 2 ∷ 2 ∷ 2 ∷ 2 ∷ 2 ∷ 0 ∷ []
+  pub due-late-locked : dues (having 2) (at 0 (lockOf 1) ∷ at 1 begin118 ∷ at 101 (pingOn 2) ∷ at 102 (goOn 0) ∷ []) ≡ 0 ∷ 2 ∷ 2 ∷ 0 ∷ []
+  pub due-anew : dues (having 2) (at 0 begin118 ∷ at 100 (on 2 ++ (0x90 ∷ 0 ∷ 60 ∷ [])) ∷ []) ≡ 2 ∷ 1 ∷ []
   -- CANCEL gets nothing; KEEPALIVE, ERROR and an unknown command get InvalidCmd
   pub no-requests : answers (having 2) (at 0 (on 1 ++ (0x91 ∷ [])) ∷ at 0 (on 1 ++ (0xbb ∷ [])) ∷ at 0 (on 1 ++ (0xbf ∷ [])) ∷ at 0 (on 1 ++ (0x82 ∷ [])) ∷ [])
       ≡ none ∷ told 1 1 ∷ told 1 1 ∷ told 1 1 ∷ []
