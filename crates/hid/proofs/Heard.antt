@@ -14,7 +14,7 @@ use Rattle.ctaphid.specs.Limits.{lastTime}
 use Rattle.ctaphid.specs.Errors.{Error, ChannelBusy, code}
 use Rattle.ctaphid.specs.Commands.{ERROR, commandOf}
 use Rattle.ctaphid.specs.Packets.{Packet, Bytes, read}
-use Rattle.ctaphid.specs.Receiver.{Receiver, idle, busy, Reception, silent, fault, whole, Turn, turn, channelOf, receive}
+use Rattle.ctaphid.specs.Receiver.{Receiver, idle, busy, Reception, silent, fault, whole, Turn, turn, channelOf, receive, stillDue}
 use Rattle.ctaphid.specs.Transport as standard
 use Rattle.ctaphid.specs.Transport.{Transport, next, error, isValid, notValid, isShut, dispatch, settle, withReceiver, serve, hear}
 use Rattle.ctaphid.proofs.Tests.{pick-known}
@@ -22,7 +22,7 @@ use Rattle.ctaphid.proofs.Packets.{read-formed}
 use Rattle.ctaphid.proofs.Refusing.{none-refuse}
 use Rattle.ctaphid.proofs.Transport.{hear-invalid, hear-shut, hear-served}
 use Rattle.ctaphid.proofs.Invariant as invariant
-use Rattle.ctaphid.proofs.Invariant.{Holds, Tells, holds-later, turns-valid}
+use Rattle.ctaphid.proofs.Invariant.{Holds, Tells, Turns, holds-later, turns-valid}
 use Rattle.packet.specs.Reading.{heard}
 use Rattle.packet.specs.declared.ProcessedPacket.{ProcessedPacket}
 use Rattle.packet.specs.declared.ProcessedPacket.the-variants.{InitPacket, ContinuationPacket}
@@ -39,20 +39,22 @@ use Rattle.receive.specs.Meaning.{none, transactionOf, receiverOf, assemblerOf}
 use Rattle.receive.specs.Assembler.{Assembling, assembling, receivedOf, bufferOf, buffered, assembledOf, refusals, parsedOf, Adds}
 use Rattle.receive.proofs.Receiving.{same-channel, is-sound}
 use Rattle.answers.specs.Replies.{answering, laidOf}
+use Rattle.hid.specs.Due.{dueBy, Counts}
 use Rattle.hid.specs.Meaning.{transportOf, stateOf}
 use Rattle.hid.specs.Soundness.{Sound}
 use Rattle.hid.specs.State.{Serving, serving, servedOf, keeping, having, arriving}
 use Rattle.hid.specs.Commands.{Serves}
 use Rattle.hid.specs.Hearing.{settledOf, Settles, Admits, Hears, Stepping, stepping, steppingOf, messageAfter, heardOf}
+use Rattle.hid.proofs.Counting.{due-any, due-back, counts-back}
 use Rattle.hid.proofs.Served.{laid}
 
 -- ---- the state as a packet meets it
 module _ (s : CtapHid) (time : ℕ) (x : CtapHid) where
-  pub arriving-idle : {a : MessageAssembler} → s .assembler .len ≡ 0 → a ≡ none → x ≡ having s time a → x ≡ arriving s time
+  pub arriving-idle : {a : MessageAssembler} → s .assembler .len ≡ 0 → a ≡ none → x ≡ having s time a (s .«still_due») → x ≡ arriving s time
   unfolding arriving pick
-  arriving-idle e z k = simp (eq-eqb _ _ e) (k ∙ ap (having s time) z)
+  arriving-idle e z k = simp (eq-eqb _ _ e) (k ∙ ap (λ (b : MessageAssembler). having s time b (s .«still_due»)) z)
 
-  pub arriving-busy : (s .assembler .len ≡ 0 → ⊥) → x ≡ having s time (s .assembler) → x ≡ arriving s time
+  pub arriving-busy : (s .assembler .len ≡ 0 → ⊥) → x ≡ having s time (s .assembler) (s .«still_due») → x ≡ arriving s time
   unfolding arriving pick
   arriving-busy e k = simp (ne-eqb _ _ e) k
 
@@ -94,7 +96,7 @@ same-assembler s wink m h room = by-len (ℕ-discrete (s .assembler .len) 0)
 
 same-state : (s : CtapHid) (wink time : ℕ) (m : List ℕ) → Sound s wink → s .max ≤ length m → stateOf s time (transportOf s m) ≡ arriving s time
 unfolding arriving
-same-state s wink time m h room = ap (having s time) (same-assembler s wink m h room)
+same-state s wink time m h room = λ i. having s time (same-assembler s wink m h room i) ((due-any (s .assembler) m ∙ sym (h .due)) i)
 
 -- ---- a transaction of a sound state can be gone on with, so no packet is refused
 pub adds-of : (s : CtapHid) (m : List ℕ) → Sound s 0 → s .max ≤ length m → (s .assembler .len ≡ 0 → ⊥) → Adds (s .assembler) m
@@ -135,8 +137,9 @@ module _ (s : CtapHid) (time : ℕ) (m r : List ℕ) (c : ℕ) (a : Assembled) (
   abbrev d : Transport
   d = transportOf s m
 
-  abbrev next-state : CtapHid
-  next-state = having s time (a .assembler)
+  -- with the number that the standard's receiver has then
+  abbrev next-state : Receiver → CtapHid
+  next-state rcv = having s time (a .assembler) (stillDue rcv)
 
   abbrev Out : Receiver → Reception → Stepping
   Out rcv b = steppingOf (servedOf s time (settle (withReceiver d rcv) time c b) r) (bufferOf rcv b m)
@@ -144,10 +147,10 @@ module _ (s : CtapHid) (time : ℕ) (m r : List ℕ) (c : ℕ) (a : Assembled) (
   abbrev Is : Receiver → Reception → Type 0
   Is rcv b = assembling a m1 ≡ assembling (record { assembler = assemblerOf rcv; received = receivedOf b }) (bufferOf rcv b m)
 
-  is-settled : (rcv : Receiver) (b : Reception) → Tells (s .max) (s .allocated) rcv b → Is rcv b → steppingOf (settledOf next-state c (a .received) m1 r) m1 ≡ Out rcv b
+  is-settled : (rcv : Receiver) (b : Reception) → Tells (s .max) (s .allocated) rcv b → Is rcv b → steppingOf (settledOf (next-state rcv) c (a .received) m1 r) m1 ≡ Out rcv b
   unfolding servedOf settle receiverOf pick
-  is-settled rcv silent tells e = ap (λ (o : Assembling). steppingOf (settledOf (having s time (o .assembled .assembler)) c (o .assembled .received) (o .message) r) (o .message)) e
-  is-settled rcv (fault x) tells e = ap (λ (o : Assembling). steppingOf (settledOf (having s time (o .assembled .assembler)) c (o .assembled .received) (o .message) r) (o .message)) e
+  is-settled rcv silent tells e = ap (λ (o : Assembling). steppingOf (settledOf (having s time (o .assembled .assembler) (stillDue rcv)) c (o .assembled .received) (o .message) r) (o .message)) e
+  is-settled rcv (fault x) tells e = ap (λ (o : Assembling). steppingOf (settledOf (having s time (o .assembled .assembler) (stillDue rcv)) c (o .assembled .received) (o .message) r) (o .message)) e
   is-settled (busy t) (whole own cmd payload) tells e = absurd (omega (arith, ap isBusy (tells .0)))
     where
       isBusy : Receiver → ℕ
@@ -155,12 +158,12 @@ module _ (s : CtapHid) (time : ℕ) (m r : List ℕ) (c : ℕ) (a : Assembled) (
       isBusy (busy u) = 1
   is-settled idle (whole own cmd payload) tells e =
       let handed : take (length payload) (front payload m) ≡ payload = take-at payload (drop (length payload) m) (length payload) refl in
-      ap (λ (o : Assembling). steppingOf (settledOf (having s time (o .assembled .assembler)) c (o .assembled .received) (o .message) r) (o .message)) e
+      ap (λ (o : Assembling). steppingOf (settledOf (having s time (o .assembled .assembler) 0) c (o .assembled .received) (o .message) r) (o .message)) e
       ∙ ap (λ (y : List ℕ). steppingOf (servedOf s time (dispatch (withReceiver d idle) time own (commandOf cmd) y) r) (front payload m)) handed
 
-  is-served : (rcv : Receiver) (b : Reception) → Sound s 0 → time ≤ 0xffff_ffff_ffff → s .max ≤ length m → 17 ≤ length r → Tells (s .max) (s .allocated) rcv b → Is rcv b → Settles next-state (a .received) m1 r
-  is-served rcv silent h early room short tells e = subst (λ (o : Assembling). Settles (having s time (o .assembled .assembler)) (o .assembled .received) (o .message) r) (sym e) tt
-  is-served rcv (fault y) h early room short tells e = subst (λ (o : Assembling). Settles (having s time (o .assembled .assembler)) (o .assembled .received) (o .message) r) (sym e) short
+  is-served : (rcv : Receiver) (b : Reception) → Sound s 0 → time ≤ 0xffff_ffff_ffff → s .max ≤ length m → 17 ≤ length r → Tells (s .max) (s .allocated) rcv b → Is rcv b → Settles (next-state rcv) (a .received) m1 r
+  is-served rcv silent h early room short tells e = subst (λ (o : Assembling). Settles (having s time (o .assembled .assembler) (stillDue rcv)) (o .assembled .received) (o .message) r) (sym e) tt
+  is-served rcv (fault y) h early room short tells e = subst (λ (o : Assembling). Settles (having s time (o .assembled .assembler) (stillDue rcv)) (o .assembled .received) (o .message) r) (sym e) short
   is-served (busy t) (whole own cmd payload) h early room short tells e = absurd (omega (arith, ap isBusy (tells .0)))
     where
       isBusy : Receiver → ℕ
@@ -168,9 +171,10 @@ module _ (s : CtapHid) (time : ℕ) (m r : List ℕ) (c : ℕ) (a : Assembled) (
       isBusy (busy u) = 1
   is-served idle (whole own cmd payload) h early room short tells e =
       let size : length (front payload m) ≡ length payload + length (drop (length payload) m) = length-append payload (drop (length payload) m) in
-      subst (λ (o : Assembling). Settles (having s time (o .assembled .assembler)) (o .assembled .received) (o .message) r) (sym e)
+      subst (λ (o : Assembling). Settles (having s time (o .assembled .assembler) 0) (o .assembled .received) (o .message) r) (sym e)
       (record {
         idle = refl;
+        due = refl;
         count = h .count;
         early = early;
         room = omega (arith, size);
@@ -188,9 +192,9 @@ same-answer : (p : ProcessedPacket) (x y : List ℕ) → notValid (heard p x) �
 same-answer (InitPacket cid cmd len) x y = refl
 same-answer (ContinuationPacket cid seq) x y = refl
 
-module _ (s : CtapHid) (time : ℕ) (p : ProcessedPacket) (field m r : List ℕ) (a : Assembled) (m1 : List ℕ) (nx : CtapHid)
+module _ (s : CtapHid) (time : ℕ) (p : ProcessedPacket) (field m r : List ℕ) (a : Assembled) (m1 : List ℕ)
     (asks : Hears s time (heard p field) m) (short : 17 ≤ length r) (valid : isValid (s .allocated) (heard p field) ≡ true)
-    (parsed : assembling a m1 ≡ parsedOf (s .assembler) (s .max) time (heard p field) m) (is : nx ≡ having s time (a .assembler)) where
+    (parsed : assembling a m1 ≡ parsedOf (s .assembler) (s .max) time (heard p field) m) where
   abbrev t : Turn
   t = receive (s .max) time (receiverOf (s .assembler) m) (heard p field)
 
@@ -198,19 +202,31 @@ module _ (s : CtapHid) (time : ℕ) (p : ProcessedPacket) (field m r : List ℕ)
   unfolding assembledOf
   received-is = parsed ∙ parsed-is s time (heard p field) m asks
 
-  tells : Tells (s .max) (s .allocated) (t .receiver) (t .reception)
-  tells = turns-valid (transportOf s m) time (heard p field) (holds-later (transportOf s m) (s .last) time (asks .later) (holds-is s 0 m (asks .sound) (asks .room))) (asks .formed) valid .tells
+  turned : Turns (s .max) (s .allocated) time t
+  turned = turns-valid (transportOf s m) time (heard p field) (holds-later (transportOf s m) (s .last) time (asks .later) (holds-is s 0 m (asks .sound) (asks .room))) (asks .formed) valid
 
-  pub serves-of : Settles nx (a .received) m1 r
-  serves-of =
-      subst (λ (y : CtapHid). Settles y (a .received) m1 r) (sym is)
-      (is-served s time m r (channelOf (heard p field)) a m1 (t .receiver) (t .reception) (asks .sound) (asks .early) (asks .room) short tells received-is)
+  assembler-is : a .assembler ≡ assemblerOf (t .receiver)
+  assembler-is = ap (λ (o : Assembling). o .assembled .assembler) received-is
 
-  pub serves : {c : ℕ} (x : Stepped) (r1 : List ℕ) → c ≡ channelOf (heard p []) → serving x r1 ≡ settledOf nx c (a .received) m1 r
-      → stepping x m1 r1 ≡ steppingOf (servedOf s time (serve (transportOf s m) time (heard p field)) r) (buffered t m)
-  serves {c} x r1 own h =
-      ap (λ (v : Serving). steppingOf v m1) (h ∙ (ap (λ (y : CtapHid). settledOf y c (a .received) m1 r) is ∙ ap (λ (y : ℕ). settledOf (having s time (a .assembler)) y (a .received) m1 r) (own ∙ same-channel p [] field)))
-      ∙ is-settled s time m r (channelOf (heard p field)) a m1 (t .receiver) (t .reception) tells received-is
+  pub counts-of : Counts (a .assembler)
+  counts-of = subst Counts (sym assembler-is) (counts-back (s .max) (s .allocated) time (asks .sound .maximum) (t .receiver) (turned .receives))
+
+  -- the state after the packet has the number that goes with its assembler
+  module _ {due : ℕ} (counted : due ≡ dueBy (a .assembler)) (nx : CtapHid) (is : nx ≡ having s time (a .assembler) due) where
+    state-is : nx ≡ next-state s time m r (channelOf (heard p field)) a m1 (t .receiver)
+    state-is = is ∙ ap (having s time (a .assembler)) (counted ∙ (ap dueBy assembler-is ∙ due-back (s .max) (s .allocated) time (t .receiver) (turned .receives)))
+
+    pub serves-of : Settles nx (a .received) m1 r
+    serves-of =
+        subst (λ (y : CtapHid). Settles y (a .received) m1 r) (sym state-is)
+        (is-served s time m r (channelOf (heard p field)) a m1 (t .receiver) (t .reception) (asks .sound) (asks .early) (asks .room) short (turned .tells) received-is)
+
+    pub serves : {c : ℕ} (x : Stepped) (r1 : List ℕ) → c ≡ channelOf (heard p []) → serving x r1 ≡ settledOf nx c (a .received) m1 r
+        → stepping x m1 r1 ≡ steppingOf (servedOf s time (serve (transportOf s m) time (heard p field)) r) (buffered t m)
+    serves {c} x r1 own h =
+        ap (λ (v : Serving). steppingOf v m1)
+        (h ∙ (λ i. settledOf (state-is i) ((own ∙ same-channel p [] field) i) (a .received) m1 r))
+        ∙ is-settled s time m r (channelOf (heard p field)) a m1 (t .receiver) (t .reception) (turned .tells) received-is
 
 -- ---- checks 1 and 2
 module _ (s : CtapHid) (time : ℕ) (disabled : Bool) (p : ProcessedPacket) (field m r : List ℕ) (asks : Hears s time (heard p field) m) (short : 17 ≤ length r) where
@@ -265,4 +281,4 @@ module _ (s : CtapHid) (time : ℕ) (p m : List ℕ) (q : Packet) (e : q ≡ rea
   pub heard-packet : (disabled : Bool) (r : List ℕ) (x : Stepping) → x ≡ heardOf s time disabled q m r → x ≡ heardOf s time disabled (read p) m r
   heard-packet disabled r x k = k ∙ ap (λ (y : Packet). heardOf s time disabled y m r) e
 
-pub ruleset hearing = (arriving-idle, arriving-busy, serves-of, serves, hears-invalid, hears-shut, hears-served, hears-valid)
+pub ruleset hearing = (arriving-idle, arriving-busy, counts-of, serves-of, serves, hears-invalid, hears-shut, hears-served, hears-valid)

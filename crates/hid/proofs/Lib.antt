@@ -1,5 +1,6 @@
 pub mod Bits
 pub mod SettingUp
+pub mod Counting
 pub mod Sound
 pub mod Served
 pub mod Heard

@@ -82,6 +82,7 @@ module _ (s : CtapHid) (wink time : ℕ) (p m r : List ℕ) (n : ℕ) (e : n ≡
             wink = omega arith;
             holder = sound .holder;
             transaction = sound .transaction;
+            due = sound .due;
             channel = sound .channel;
           };
           early = ltb-false lastTime time (g .1 .1 .1 .1 .0);

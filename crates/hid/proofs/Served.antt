@@ -7,7 +7,7 @@ use borrow.Author.Tests.{le-ltb}
 use lib.ListN.{length, take}
 use lib.Seq.{length-take-le}
 use Rattle.ctaphid.specs.Choice.{pick, isIn}
-use Rattle.ctaphid.specs.Receiver.{idle}
+use Rattle.ctaphid.specs.Receiver.{idle, stillDue}
 use Rattle.ctaphid.specs.Transport as standard
 use Rattle.ctaphid.specs.Transport.{Transport, Lock, Next, next, error, withLock, withAllocated, onInit, onLock, knows, obey, dispatch}
 use Rattle.ctaphid.specs.Commands.{Command, MSG, CBOR, INIT, PING, CANCEL, ERROR, KEEPALIVE, WINK, LOCK, VENDOR, commandOf}
@@ -43,27 +43,30 @@ laid s a r x r′ h e = ap (λ (o : Answering). serving (record { hid = s; answe
 -- s with another lock, and with another count of channels
 abbrev pub bolting : CtapHid → (holder until : ℕ) → CtapHid
 bolting s holder until =
-    record { assembler = s .assembler; lock = until; last = s .last; vendor = s .vendor; allocated = s .allocated; locked = holder; max = s .max; u2f = s .u2f; spare = s .spare; later = s .later }
+    record { assembler = s .assembler; lock = until; last = s .last; vendor = s .vendor; allocated = s .allocated; locked = holder; max = s .max; u2f = s .u2f; spare = s .spare; «still_due» = s .«still_due» }
 
 abbrev pub counting : CtapHid → (allocated : ℕ) → CtapHid
 counting s n =
-    record { assembler = s .assembler; lock = s .lock; last = s .last; vendor = s .vendor; allocated = n; locked = s .locked; max = s .max; u2f = s .u2f; spare = s .spare; later = s .later }
+    record { assembler = s .assembler; lock = s .lock; last = s .last; vendor = s .vendor; allocated = n; locked = s .locked; max = s .max; u2f = s .u2f; spare = s .spare; «still_due» = s .«still_due» }
 
 -- no transaction
 pub idle-is : (a : MessageAssembler) (m : List ℕ) → a ≡ none → receiverOf a m ≡ idle
 unfolding receiverOf pick
 idle-is a m e = ap (λ (b : MessageAssembler). receiverOf b m) e
 
-module _ (s : CtapHid) (m r : List ℕ) (e : s .assembler ≡ none) where
+module _ (s : CtapHid) (m r : List ℕ) (e : s .assembler ≡ none) (none-due : s .«still_due» ≡ 0) where
   same-assembler : assemblerOf (receiverOf (s .assembler) m) ≡ s .assembler
   same-assembler = ap assemblerOf (idle-is (s .assembler) m e) ∙ sym e
+
+  same-due : stillDue (receiverOf (s .assembler) m) ≡ s .«still_due»
+  same-due = ap stillDue (idle-is (s .assembler) m e) ∙ sym none-due
 
   -- an answer that leaves the transport as it is leaves the state as it is
   pub stays : (a : standard.Answer) → servedOf s (s .last) (next (transportOf s m) a) r ≡ keeping s a r
   unfolding servedOf
   stays a =
       λ i. serving (record {
-        hid = record { assembler = same-assembler i; lock = s .lock; last = s .last; vendor = s .vendor; allocated = s .allocated; locked = s .locked; max = s .max; u2f = s .u2f; spare = s .spare; later = s .later };
+        hid = record { assembler = same-assembler i; lock = s .lock; last = s .last; vendor = s .vendor; allocated = s .allocated; locked = s .locked; max = s .max; u2f = s .u2f; spare = s .spare; «still_due» = same-due i };
         answer = answerOf a;
       }) (replied a r)
 
@@ -72,7 +75,7 @@ module _ (s : CtapHid) (m r : List ℕ) (e : s .assembler ≡ none) where
   unfolding servedOf
   locks l a =
       λ i. serving (record {
-        hid = record { assembler = same-assembler i; lock = l .until; last = s .last; vendor = s .vendor; allocated = s .allocated; locked = l .holder; max = s .max; u2f = s .u2f; spare = s .spare; later = s .later };
+        hid = record { assembler = same-assembler i; lock = l .until; last = s .last; vendor = s .vendor; allocated = s .allocated; locked = l .holder; max = s .max; u2f = s .u2f; spare = s .spare; «still_due» = same-due i };
         answer = answerOf a;
       }) (replied a r)
 
@@ -80,7 +83,7 @@ module _ (s : CtapHid) (m r : List ℕ) (e : s .assembler ≡ none) where
   unfolding servedOf
   allocates n a =
       λ i. serving (record {
-        hid = record { assembler = same-assembler i; lock = s .lock; last = s .last; vendor = s .vendor; allocated = n; locked = s .locked; max = s .max; u2f = s .u2f; spare = s .spare; later = s .later };
+        hid = record { assembler = same-assembler i; lock = s .lock; last = s .last; vendor = s .vendor; allocated = n; locked = s .locked; max = s .max; u2f = s .u2f; spare = s .spare; «still_due» = same-due i };
         answer = answerOf a;
       }) (replied a r)
 
@@ -105,7 +108,7 @@ module _ (s : CtapHid) (cid len : ℕ) (m r : List ℕ) (asks : Serves s len m r
       let n : Next Transport = onInit (havingCount (s .allocated) u2f) cid payload in
       let is : allocating x r′ ≡ allocatedBy n r = e ∙ sym (init-answered (s .allocated) u2f cid payload r (asks .short) (allocatedBy n r) (asks .count) refl) in
       ap (λ (o : Allocating). serving (record { hid = counting s (o .allocated .allocated); answer = o .allocated .answer }) (o .reply)) is
-      ∙ (sym (allocates s m r (asks .idle) (n .state .allocated) (n .answer))
+      ∙ (sym (allocates s m r (asks .idle) (asks .due) (n .state .allocated) (n .answer))
       ∙ ap (λ (t : Next Transport). servedOf s (s .last) t r) (sym (init-any d cid payload)))
 
   pub lock-served : (x : Locked) (r′ : List ℕ) → locking x r′ ≡ lockOf (record { holder = s .locked; until = s .lock }) (s .last) cid payload r
@@ -114,7 +117,7 @@ module _ (s : CtapHid) (cid len : ℕ) (m r : List ℕ) (asks : Serves s len m r
       let n : Next Transport = onLock (held (d .lock)) (s .last) cid payload in
       let is : locking x r′ ≡ lockedBy n r = e ∙ sym (lock-answered (s .locked) (s .lock) (s .last) cid payload r (asks .short) (lockedBy n r) (asks .early) refl) in
       ap (λ (o : Locking). serving (record { hid = bolting s (o .locked .locked) (o .locked .lock); answer = o .locked .answer }) (o .reply)) is
-      ∙ (sym (locks s m r (asks .idle) (n .state .lock) (n .answer))
+      ∙ (sym (locks s m r (asks .idle) (asks .due) (n .state .lock) (n .answer))
       ∙ ap (λ (t : Next Transport). servedOf s (s .last) t r) (sym (lock-any d (s .last) cid payload)))
 
 -- ---- the cases of check 7
@@ -136,7 +139,7 @@ module _ (s : CtapHid) (cid n len : ℕ) (m r : List ℕ) (asks : Serves s len m
       reads-as k _ e
       (ap (λ (t : Stepped). serving t r) h
       ∙ (ap (λ (t : ℕ). serving (record { hid = s; answer = Message cid (commandCase k) t }) r) (sym size)
-      ∙ (sym (stays s m r (asks .idle) (standard.request cid k (take len m))) ∙ ap (λ (t : Next Transport). servedOf s (s .last) t r) (sym law))))
+      ∙ (sym (stays s m r (asks .idle) (asks .due) (standard.request cid k (take len m))) ∙ ap (λ (t : Next Transport). servedOf s (s .last) t r) (sym law))))
 
   pub tells-msg : (x : Stepped) → c ≡ command.Msg → x ≡ record { hid = s; answer = Message cid command.Msg len } → serving x r ≡ servedOf s (s .last) (told (commandOf n)) r
   unfolding dispatch knows obey pick
@@ -155,19 +158,19 @@ module _ (s : CtapHid) (cid n len : ℕ) (m r : List ℕ) (asks : Serves s len m
   tells-ping a e h =
       reads-as PING _ (ap commandMeant e)
       (ap (λ (t : Answer). serving (record { hid = s; answer = t }) r) (h ∙ simp (le-ltb 7609 len (asks .most)) (ap (Echo cid command.Ping) (sym size)))
-      ∙ sym (stays s m r (asks .idle) (standard.reply cid PING (take len m))))
+      ∙ sym (stays s m r (asks .idle) (asks .due) (standard.reply cid PING (take len m))))
 
   pub tells-cancel : (x : Stepped) → c ≡ command.Cancel → x ≡ record { hid = s; answer = Nothing } → serving x r ≡ servedOf s (s .last) (told (commandOf n)) r
   unfolding dispatch knows obey pick
-  tells-cancel x e h = reads-as CANCEL _ (ap commandMeant e) (ap (λ (t : Stepped). serving t r) h ∙ sym (stays s m r (asks .idle) standard.nothing))
+  tells-cancel x e h = reads-as CANCEL _ (ap commandMeant e) (ap (λ (t : Stepped). serving t r) h ∙ sym (stays s m r (asks .idle) (asks .due) standard.nothing))
 
   pub tells-error : (v : Serving) → c ≡ command.Error → v ≡ keeping s (error cid InvalidCmd) r → v ≡ servedOf s (s .last) (told (commandOf n)) r
   unfolding dispatch knows obey pick
-  tells-error v e h = reads-as ERROR _ (ap commandMeant e) (h ∙ sym (stays s m r (asks .idle) (error cid InvalidCmd)))
+  tells-error v e h = reads-as ERROR _ (ap commandMeant e) (h ∙ sym (stays s m r (asks .idle) (asks .due) (error cid InvalidCmd)))
 
   pub tells-keepalive : (v : Serving) → c ≡ command.Keepalive → v ≡ keeping s (error cid InvalidCmd) r → v ≡ servedOf s (s .last) (told (commandOf n)) r
   unfolding dispatch knows obey pick
-  tells-keepalive v e h = reads-as KEEPALIVE _ (ap commandMeant e) (h ∙ sym (stays s m r (asks .idle) (error cid InvalidCmd)))
+  tells-keepalive v e h = reads-as KEEPALIVE _ (ap commandMeant e) (h ∙ sym (stays s m r (asks .idle) (asks .due) (error cid InvalidCmd)))
 
   pub tells-init : (v : Serving) → c ≡ command.Init → v ≡ servedOf s (s .last) (onInit (transportOf s m) cid (take len m)) r → v ≡ servedOf s (s .last) (told (commandOf n)) r
   unfolding dispatch knows obey pick
@@ -198,10 +201,10 @@ module _ (s : CtapHid) (cid k len : ℕ) (m r : List ℕ) (asks : Serves s len m
   vendor-out x t h =
       simp (sym is ∙ t)
       (ap (λ (y : Stepped). serving y r) h
-      ∙ (ap (λ (y : ℕ). serving (record { hid = s; answer = Message cid (command.Vendor k) y }) r) (sym (length-take-le len m (asks .room))) ∙ sym (stays s m r (asks .idle) (standard.request cid (VENDOR k) (take len m)))))
+      ∙ (ap (λ (y : ℕ). serving (record { hid = s; answer = Message cid (command.Vendor k) y }) r) (sym (length-take-le len m (asks .room))) ∙ sym (stays s m r (asks .idle) (asks .due) (standard.request cid (VENDOR k) (take len m)))))
 
   pub vendor-off : (v : Serving) → b ≡ false → v ≡ keeping s (error cid InvalidCmd) r → v ≡ servedOf s (s .last) (dispatch (transportOf s m) (s .last) cid (VENDOR k) (take len m)) r
   unfolding dispatch knows pick
-  vendor-off v t h = simp (sym is ∙ t) (h ∙ sym (stays s m r (asks .idle) (error cid InvalidCmd)))
+  vendor-off v t h = simp (sym is ∙ t) (h ∙ sym (stays s m r (asks .idle) (asks .due) (error cid InvalidCmd)))
 
 pub ruleset commands = (tells-msg, tells-cbor, tells-wink, tells-ping, tells-cancel, tells-error, tells-keepalive, tells-init, tells-lock, tells-vendor)

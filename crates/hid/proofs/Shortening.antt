@@ -1,13 +1,16 @@
 -- The short way comes to what the long way comes to. Assumes nothing.
-use Prim.Native.Nat.{ℕ, _+_, _≤_, _<_}
+use Prim.Native.Nat.{ℕ, _+_, _-_, _≤_, _<_}
 use native.Mathlib.Omega.{arith}
 use mathlib.Core.Path.{_≡_, refl, sym, ap, subst, _∙_}
-use mathlib.Core.List.{List, []}
+use mathlib.Core.List.{List, [], _++_}
 use mathlib.Core.Bool.{Bool, true, false}
-use borrow.Author.Tests.{eq-eqb}
-use lib.ListN.{length, drop}
+use borrow.Author.Tests.{eq-eqb, lt-ltb}
+use lib.ListN.{length, take, length-append}
+use lib.Seq.{length-take-le}
+use Rattle.ctaphid.specs.Choice.{pick}
+use Rattle.ctaphid.specs.Messages.{count}
 use Rattle.ctaphid.specs.Packets.{continuation, Bytes, read}
-use Rattle.ctaphid.specs.Receiver.{collect, receive}
+use Rattle.ctaphid.specs.Receiver.{Transaction, busy, collect, receive}
 use Rattle.ctaphid.specs.Transport.{isValid, isShut}
 use Rattle.packet.specs.Reading.{readingOf, heard, said, fieldOf}
 use Rattle.packet.proofs.Packets.{packet-size, packet-read}
@@ -21,14 +24,17 @@ use Rattle.answers.specs.declared.Answer.the-variants.{Nothing}
 use Rattle.hid.specs.declared.Stepped.{Stepped}
 use Rattle.receive.specs.declared.Received.the-variants as received
 use Rattle.receive.specs.declared.Assembled.{Assembled}
-use Rattle.receive.specs.Meaning.{transactionOf, receiverOf}
-use Rattle.receive.specs.Assembler.{assembling, assembledOf, Adds}
+use Rattle.collect.specs.Standing.{Stands}
+use Rattle.receive.specs.Meaning.{transactionOf, receiverOf, assemblerOf}
+use Rattle.receive.specs.Assembler.{Assembling, assembling, assembledOf, Adds}
 use Rattle.receive.proofs.Receiving.{yes-turn, own-later, busy-own, receives-busy}
+use Rattle.hid.specs.Due.{dueBy, Counts}
 use Rattle.hid.specs.State.{having}
 use Rattle.hid.specs.Hearing.{Admits, Hears, stepping, heardOf}
 use Rattle.hid.specs.Refusals.{refusalOf}
 use Rattle.hid.specs.Transport.{admittedOf}
 use Rattle.hid.specs.Shortcut.{Open, Next, Due, TellsNext, TellsDue, GoesOn}
+use Rattle.hid.proofs.Counting.{due-some, due-0, due-formula}
 use Rattle.hid.proofs.Heard.{same-valid, adds-of, parsed-is, serves, hears-served, hears-packet, heard-packet}
 use Rattle.hid.proofs.Refusing.{step-admitted, step-heard}
 
@@ -43,7 +49,7 @@ module _ (s : CtapHid) (time : ℕ) (disabled : Bool) (p : ProcessedPacket) {cid
     ap (isShut (record { holder = s .locked; until = s .lock }) time disabled) (sym own) ∙ (sym test ∙ off),
   )
 
-module _ (s : CtapHid) (time : ℕ) (disabled : Bool) (p : List ℕ) (more : s .assembler .taken + 59 < s .assembler .len)
+module _ (s : CtapHid) (time : ℕ) (disabled : Bool) (p : List ℕ) (more : 1 < s .«still_due»)
     (x : Reading) (e : said x (fieldOf (readingOf p)) ≡ readingOf p) {processed : ProcessedPacket} (is : x ≡ reading.Packet processed) where
   field-is : heard processed (fieldOf (readingOf p)) ≡ read p
   field-is = packet-read p (packet-size p x e is) x e (fieldOf (readingOf p)) is refl
@@ -80,14 +86,23 @@ module _ (s : CtapHid) (time : ℕ) (p m : List ℕ) (asks : Admits s time p m) 
   abbrev a : MessageAssembler
   a = s .assembler
 
+  -- there is one, as more than none is due
   begun : a .len ≡ 0 → ⊥
-  begun z = omega (arith, due .more)
+  begun z = omega (arith, due .more, asks .sound .due, due-0 a z)
+
+  stands : Stands (s .max) (a .len) (a .taken) (a .seq)
+  stands = asks .sound .transaction begun .lengths
+
+  counts : Counts a
+  counts z = record { long = stands .long; within = omega (arith, stands .within, asks .sound .maximum); below = stands .below; bytes = stands .bytes }
 
   -- its number is small
   pub number-low : a .seq ≤ 128
-  number-low =
-      let t = asks .sound .transaction begun in
-      omega (arith, t .lengths .below, t .lengths .within, asks .sound .maximum)
+  number-low = omega (arith, stands .below, stands .within, asks .sound .maximum)
+
+  -- one data field more is not all
+  pub block-low : a .taken + 59 < a .len
+  block-low = omega (arith, due .more, asks .sound .due, due-formula a counts begun, stands .below, stands .bytes)
 
   pub renewed-adds : Adds (renewed s time) m
   renewed-adds =
@@ -118,13 +133,28 @@ module _ (s : CtapHid) (time : ℕ) (p m : List ℕ) (asks : Admits s time p m) 
           (own-later (s .max) time q field m (assembling o m1) (transactionOf a m) refl
           (yes-turn _ (assembling o m1) _ _ m (eq-eqb (a .seq) (a .seq) refl) e)))
 
-      pub goes-on : (nx : CtapHid) → nx ≡ having s time x → GoesOn nx s time p m m1
+      abbrev grown : Transaction
+      grown = record { channel = a .cid; command = a .cmd; declared = a .len; collected = take (a .taken) m ++ field; due = a .seq + 1; deadline = time + 100 }
+
+      grown-is : x ≡ assemblerOf (busy grown)
+      unfolding assembledOf collect pick
+      grown-is =
+          let size : length (take (a .taken) m) ≡ a .taken = length-take-le (a .taken) m (omega (arith, renewed-adds .taken, renewed-adds .room)) in
+          let less : length (take (a .taken) m ++ field) < a .len = simp length-append (omega (arith, size, block, block-low)) in
+          ap (λ (y : Assembling). y .assembled .assembler) e ∙ simp (lt-ltb _ _ less)
+
+      one-less : s .«still_due» - 1 ≡ dueBy x
+      one-less =
+          let now-due : dueBy x ≡ count 57 59 (a .len) - (1 + (a .seq + 1)) = ap dueBy grown-is ∙ due-some (assemblerOf (busy grown)) [] begun in
+          omega (arith, now-due, asks .sound .due, due-some a [] begun)
+
+      pub goes-on : (nx : CtapHid) → nx ≡ having s time x (s .«still_due» - 1) → GoesOn nx s time p m m1
       goes-on nx k disabled r unshut short =
           let y : Stepped = record { hid = nx; answer = Nothing } in
           let valid : isValid (s .allocated) (heard q field) ≡ true = ap (isValid (s .allocated)) is-read ∙ due .valid in
           heard-packet s time p m (heard q field) is-read disabled r (stepping y m1 r)
           (hears-served s time disabled q field m r hears short valid {c = a .cid} refl {q = false} y m1 r (sym unshut) refl
-          (serves s time q field m r o m1 nx hears short valid (received-is ∙ sym (parsed-is s time (heard q field) m hears)) k {c = a .cid} y r refl refl))
+          (serves s time q field m r o m1 hears short valid (received-is ∙ sym (parsed-is s time (heard q field) m hears)) one-less nx k {c = a .cid} y r refl refl))
 
 -- ---- a step by the short way
 module _ (s : CtapHid) (wink time : ℕ) (disabled : Bool) (p m r : List ℕ) {n : ℕ} (e : n ≡ refusalOf s wink time (length p) (length m) (length r)) (none : n ≡ 0)

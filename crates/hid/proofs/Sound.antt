@@ -1,5 +1,5 @@
 -- The test for soundness and the facts agree. Assumes nothing.
-use Prim.Native.Nat.{ℕ, _+_, _<_}
+use Prim.Native.Nat.{ℕ, _+_, _≤_, _<_}
 use native.Mathlib.Omega.{arith}
 use native.Mathlib.Decide.{decLt, ℕ-discrete}
 use mathlib.Core.Path.{_≡_, refl, sym, _∙_}
@@ -14,6 +14,7 @@ use Rattle.receive.specs.declared.MessageAssembler.{MessageAssembler}
 use Rattle.receive.specs.Assembler as receive
 use Rattle.receive.proofs.Receiving.{sound-is as receive-sound-is, is-sound as receive-is-sound}
 use Rattle.hid.specs.declared.CtapHid.{CtapHid}
+use Rattle.hid.specs.Due.{dueBy, Counts}
 use Rattle.hid.specs.Soundness.{Allocated, Placed, Sound, isOnChannel, isPlaced, transacts, isHeld, isTimely, isSound}
 
 -- a call whose answer was tested
@@ -30,6 +31,19 @@ module _ (a : MessageAssembler) (max : ℕ) (b : Bool) (e : b ≡ receive.isSoun
 
   pub assembled-no : b ≡ false → receive.isSound a max ≡ false
   assembled-no t = sym e ∙ t
+
+-- a sound transaction's numbers tell what is still due
+pub assembled-counts : (a : MessageAssembler) (max : ℕ) {b : Bool} → b ≡ receive.isSound a max → b ≡ true → max ≤ 7609 → Counts a
+assembled-counts a max e t most z =
+    let stands = receive-sound-is a max z (sym e ∙ t) .lengths in
+    record { long = stands .long; within = omega (arith, stands .within); below = stands .below; bytes = stands .bytes }
+
+module _ (number : ℕ) (a : MessageAssembler) (b : Bool) (e : b ≡ eqb number (dueBy a)) where
+  pub due-yes : b ≡ true → eqb number (dueBy a) ≡ true
+  due-yes t = sym e ∙ t
+
+  pub due-no : b ≡ false → eqb number (dueBy a) ≡ false
+  due-no t = sym e ∙ t
 
 module _ (s : CtapHid) (wink : ℕ) (b : Bool) (e : b ≡ isTimely s wink) where
   pub timely-yes : b ≡ true → isTimely s wink ≡ true
@@ -72,6 +86,7 @@ sound-is s wink e =
     let p₃ = pick-true (leb (s .last) 0xffff_ffff_ffff) _ (p₂ .1) in
     let p₄ = pick-true (isTimely s wink) _ (p₃ .1) in
     let p₅ = pick-true (receive.isSound (s .assembler) (s .max)) _ (p₄ .1) in
+    let p₆ = pick-true (eqb (s .«still_due») (dueBy (s .assembler))) _ (p₅ .1) in
     let t₁ = pick-true (leb (s .assembler .deadline) (s .last + 100)) _ (p₄ .0) in
     let t₂ = pick-true (leb (s .lock) (s .last + 10000)) _ (t₁ .1) in
     let t₃ = pick-true (leb wink (s .last + 5000)) _ (t₂ .1) in
@@ -84,7 +99,8 @@ sound-is s wink e =
       wink = leb-true wink (s .last + 5000) (t₃ .0);
       holder = held-is s (t₃ .1);
       transaction = λ z. receive-sound-is (s .assembler) (s .max) z (p₅ .0);
-      channel = placed-is (s .allocated) (s .assembler) (p₅ .1);
+      due = eqb-true (s .«still_due») (dueBy (s .assembler)) (p₆ .0);
+      channel = placed-is (s .allocated) (s .assembler) (p₆ .1);
     }
 
 -- ---- and back
@@ -121,4 +137,4 @@ pub is-sound : (s : CtapHid) (wink : ℕ) → Sound s wink → isSound s wink �
 unfolding isSound isTimely transacts pick
 is-sound s wink t =
     simp (le-leb (s .max) 7609 (t .maximum), le-leb _ _ (t .count), le-leb _ _ (t .last), le-leb _ _ (t .deadline), le-leb _ _ (t .lock), le-leb _ _ (t .wink), is-held s (t .holder))
-    (simp (receive-is-sound (s .assembler) (s .max) (t .transaction)) (is-placed (s .allocated) (s .assembler) (t .channel)))
+    (simp (receive-is-sound (s .assembler) (s .max) (t .transaction), eq-eqb (s .«still_due») (dueBy (s .assembler)) (t .due)) (is-placed (s .allocated) (s .assembler) (t .channel)))

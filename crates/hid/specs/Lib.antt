@@ -1,4 +1,5 @@
 pub mod Vendor
+pub mod Due
 pub mod Meaning
 pub mod Soundness
 pub mod SetUp

@@ -3,6 +3,7 @@ use Prim.Native.Nat.{ℕ}
 use mathlib.Core.List.{List}
 use mathlib.Core.Bool.{not}
 use lib.Dec.{eqb}
+use Rattle.ctaphid.specs.Receiver.{stillDue}
 use Rattle.ctaphid.specs.Transport as standard
 use Rattle.ctaphid.specs.Device.{Device, device}
 use Rattle.receive.specs.Meaning.{receiverOf, assemblerOf}
@@ -35,5 +36,5 @@ stateOf s time d =
       max = s .max;
       u2f = s .u2f;
       spare = s .spare;
-      later = s .later;
+      «still_due» = stillDue (d .receiver);
     }

@@ -16,7 +16,7 @@ use Rattle.hid.specs.declared.MainReady.the-variants as device
 
 abbrev pub freshWith : (maximum : ℕ) → (u2f : Bool) → (bits : ℕ) → CtapHid
 freshWith max u2f bits =
-    record { assembler = none; lock = 0; last = 0; vendor = bits; allocated = 0; locked = 0; max = max; u2f = cond u2f 1 0; spare = 0; later = 0 }
+    record { assembler = none; lock = 0; last = 0; vendor = bits; allocated = 0; locked = 0; max = max; u2f = cond u2f 1 0; spare = 0; «still_due» = 0 }
 
 abbrev pub freshHid : (maximum : ℕ) → (u2f : Bool) → (vendor : List ℕ) → CtapHid
 freshHid max u2f numbers = freshWith max u2f (bitsOf numbers)

@@ -10,6 +10,7 @@ use Rattle.ctaphid.specs.Transport.{isAllocated}
 use Rattle.receive.specs.declared.MessageAssembler.{MessageAssembler}
 use Rattle.receive.specs.Assembler as receive
 use Rattle.hid.specs.declared.CtapHid.{CtapHid}
+use Rattle.hid.specs.Due.{dueBy}
 
 abbrev pub Allocated : (allocated channel : ℕ) → Type 0
 Allocated allocated c = (1 ≤ c) × (c ≤ allocated)
@@ -28,6 +29,7 @@ pub record Sound (s : CtapHid) (until : ℕ) : Type 0 where
   pub wink : until ≤ s .last + 5000
   pub holder : s .last < s .lock → Allocated (s .allocated) (s .locked)
   pub transaction : (s .assembler .len ≡ 0 → ⊥) → receive.Sound (s .assembler) (s .max)
+  pub due : s .«still_due» ≡ dueBy (s .assembler)
   pub channel : (s .assembler .len ≡ 0 → ⊥) → Placed (s .allocated) (s .assembler)
 
 -- ---- the same as a test
@@ -39,7 +41,7 @@ unfoldable pub isPlaced : (allocated : ℕ) → MessageAssembler → Bool
 isPlaced allocated a = pick (eqb (a .len) 0) true (isOnChannel allocated (a .cid) (a .cmd))
 
 unfoldable pub transacts : CtapHid → Bool
-transacts s = every (receive.isSound (s .assembler) (s .max) ∷ isPlaced (s .allocated) (s .assembler) ∷ [])
+transacts s = every (receive.isSound (s .assembler) (s .max) ∷ eqb (s .«still_due») (dueBy (s .assembler)) ∷ isPlaced (s .allocated) (s .assembler) ∷ [])
 
 unfoldable pub isHeld : CtapHid → Bool
 isHeld s = pick (ltb (s .last) (s .lock)) (isAllocated (s .allocated) (s .locked)) true

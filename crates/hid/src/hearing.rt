@@ -2,6 +2,7 @@
 use crate::CtapHid;
 use crate::Stepped;
 use crate::commands::preprocess_message;
+use crate::due::still_due;
 use crate::state::at_time;
 use crate::state::error_message;
 use crate::state::no_message;
@@ -106,7 +107,8 @@ fn serve(
 {
     let assembler = hid.assembler;
     let assembled = assembler.parse_packet(hid.max, time, packet, data, message);
-    let next = with_assembler(hid, time, assembled.assembler);
+    let due = still_due(assembled.assembler);
+    let next = with_assembler(hid, time, assembled.assembler, due);
     let received = assembled.received;
     settle(next, packet.channel(), received, message, reply)
 }

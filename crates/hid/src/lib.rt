@@ -1,6 +1,7 @@
 // The device's side of CTAPHID, after the rest of OpenSK's hid/mod.rs, and main_hid.rs.
 
 mod commands;
+mod due;
 mod hearing;
 mod main_hid;
 mod questions;
@@ -19,7 +20,7 @@ pub use receive::MessageAssembler;
 
 // Every state is numbers, without padding, so that one type serves Rattle, Rust and C. A timer is its deadline, 0 when unset.
 // The transport. Channels 1 to allocated are allocated; locked holds the lock until the time lock; u2f is 0 for a key without; vendor has a bit for each of the
-// vendor's 64 numbers, the lowest for 64. spare and later are ignored, and stay as they are.
+// vendor's 64 numbers, the lowest for 64; still_due continuations are still due, for a light to read. spare is ignored, and stays as it is.
 #[repr(C)]
 pub struct CtapHid {
     pub assembler: MessageAssembler,
@@ -31,7 +32,7 @@ pub struct CtapHid {
     pub max: u32,
     pub u2f: u8,
     pub spare: u8,
-    pub later: u16,
+    pub still_due: u16,
 }
 
 // The transport and the wink, which runs until the time wink.

@@ -53,6 +53,6 @@ fn fresh(max: u32, u2f: bool, vendor: u64) -> CtapHid
         max,
         u2f: u2f as u8,
         spare: 0,
-        later: 0,
+        still_due: 0,
     }
 }

@@ -21,8 +21,7 @@ ghost use Rattle.hid.specs.Shortcut.{Due, TellsNext, TellsDue, GoesOn};
 pub(crate) fn is_due(hid: CtapHid, time: u64, disabled: bool, packet: &[u8]) -> bool
     ensures { λ r. ⌜ TellsDue r hid time disabled (now (packet .entry)) ⌝ }
 {
-    let a = hid.assembler;
-    if (a.taken as usize) + 59 >= a.len as usize {
+    if hid.still_due <= 1 {
         return false;
     }
     match packet::process_single_packet(packet) {
@@ -69,7 +68,7 @@ pub(crate) fn go_on(hid: CtapHid, time: u64, packet: &[u8], message: &mut [u8]) 
     next.seq = next.seq + 1;
     let data = packet::packet_data(packet);
     let assembler = append_block(next, data, message);
-    with_assembler(hid, time, assembler)
+    with_assembler(hid, time, assembler, hid.still_due - 1)
 }
 
 // The data is 59 bytes, and more is declared.

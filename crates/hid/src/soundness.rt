@@ -1,6 +1,7 @@
 // Whether a state makes sense: the list of docs/RULES.md, in its order.
 use crate::CtapHid;
 use crate::MessageAssembler;
+use crate::due::is_still_due;
 use channels::is_allocated;
 use packet::CtapHidCommand;
 use packet::Limits;
@@ -55,13 +56,16 @@ fn is_held(hid: CtapHid) -> bool
     true
 }
 
-// There is no transaction, or a sound one on a channel that may have it.
+// There is no transaction, or a sound one on a channel that may have it, and the number still due is right.
 fn transacts(hid: CtapHid) -> bool
+    requires { ⌜ hid .max ≤ 7609 ⌝ }
     ensures { λ r. ⌜ r ≡ transacts hid ⌝ }
 {
     let assembler = hid.assembler;
     if assembler.is_sound(hid.max) {
-        return is_placed(hid.allocated, assembler);
+        if is_still_due(hid.still_due, assembler) {
+            return is_placed(hid.allocated, assembler);
+        }
     }
     false
 }

@@ -18,17 +18,23 @@ pub(crate) fn at_time(hid: CtapHid, time: u64) -> CtapHid
     let assembler = hid.assembler;
     if assembler.len == 0 {
         let cleared = MessageAssembler::new();
-        return with_assembler(hid, time, cleared);
+        return with_assembler(hid, time, cleared, hid.still_due);
     }
-    with_assembler(hid, time, assembler)
+    with_assembler(hid, time, assembler, hid.still_due)
 }
 
-pub(crate) fn with_assembler(hid: CtapHid, last: u64, assembler: MessageAssembler) -> CtapHid
-    ensures { λ r. ⌜ r ≡ having hid last assembler ⌝ }
+pub(crate) fn with_assembler(
+    hid: CtapHid,
+    last: u64,
+    assembler: MessageAssembler,
+    due: u16,
+) -> CtapHid
+    ensures { λ r. ⌜ r ≡ having hid last assembler due ⌝ }
 {
     let mut next = hid;
     next.assembler = assembler;
     next.last = last;
+    next.still_due = due;
     next
 }
 

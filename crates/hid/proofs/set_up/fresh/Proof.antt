@@ -11,7 +11,7 @@ use Rattle.hid.proofs.set_up.fresh.Tie as tie
 
 abbrev fresh : MessageAssembler → (vendor max u2f : ℕ) → CtapHid
 fresh a vendor max u2f =
-    record { assembler = a; lock = 0; last = 0; vendor = vendor; allocated = 0; locked = 0; max = max; u2f = u2f; spare = 0; later = 0 }
+    record { assembler = a; lock = 0; last = 0; vendor = vendor; allocated = 0; locked = 0; max = max; u2f = u2f; spare = 0; «still_due» = 0 }
 
 flag : (b : Bool) → boolByte b ≡ cond b 1 0
 flag true = refl

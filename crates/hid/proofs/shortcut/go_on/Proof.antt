@@ -1,6 +1,6 @@
 -- `go_on` meets its contract. Assumes nothing.
 use native.Mathlib.Omega.{arith}
-use Rattle.hid.proofs.Shortening.{number-low, renewed-adds, block, goes-on}
+use Rattle.hid.proofs.Shortening.{number-low, renewed-adds, block, block-low, goes-on}
 use borrow.Author.Needs.{needs}
 use Rattle.hid.proofs.shortcut.go_on.Statement.{statement}
 use Rattle.hid.proofs.shortcut.go_on.Tie as tie
@@ -24,8 +24,11 @@ append-block-requires c κs =
     let start = known .before in
     let a = start .args in (
       renewed-adds (a .hid) (a .time) (a .packet .now) (a .message .now) (start .pre .0) (start .pre .1),
-      (block (a .hid) (a .time) (a .packet .now) (a .message .now) (start .pre .0) (start .pre .1) (λ i. omega (arith, known .shared-slice-known .given i)) (at-data .packet-data .result .now) (at-data .packet-data .ensures .bytes), start .pre .1 .more),
+      (block (a .hid) (a .time) (a .packet .now) (a .message .now) (start .pre .0) (start .pre .1) (λ i. omega (arith, known .shared-slice-known .given i)) (at-data .packet-data .result .now) (at-data .packet-data .ensures .bytes), block-low (a .hid) (a .time) (a .packet .now) (a .message .now) (start .pre .0) (start .pre .1)),
     )
+
+sub-with-assembler : tie.Need-sub-with-assembler
+sub-with-assembler c = search needs
 
 with-assembler-requires : tie.Need-with-assembler-requires
 with-assembler-requires c κs = search needs
@@ -35,7 +38,7 @@ same-length c = search needs
 
 returns : tie.Need-returns
 returns c =
-    let at-append = c .before .before .before in
+    let at-append = c .before .before .before .before in
     let at-data = at-append .before .before in
     let known = at-data .before .before .before .before in
     let start = known .before in
@@ -50,6 +53,7 @@ go-on-spec =
     add-next-2
     packet-data-requires
     append-block-requires
+    sub-with-assembler
     with-assembler-requires
     same-length
     returns)
