@@ -581,7 +581,7 @@ static void run_out_both(both *on)
     CHECK(snjofrask_is_locked(&on->transport, 200) == 0 && are_due(on, 5));
 }
 
-/* Any packet drops it that is neither told so nor on a channel that isn't valid. */
+/* Any packet drops it that is neither told that the device is busy nor on a channel that isn't valid. */
 static void due_past_the_deadline(void)
 {
     both on;
@@ -609,10 +609,19 @@ static void due_past_the_deadline(void)
     CHECK(leaves_due(&on, 999, 0, SNJOFRASK_ERR_CHANNEL_BUSY, 5) && leaves_due(&on, 1000, 0, 0, 1));
 }
 
-/* Whether both are refused with this number, by steps and by questions, and every byte is as it came. */
+/* Whether steps and questions find both unsound. */
+static int are_unsound(both *on, uint64_t time, uint8_t disabled)
+{
+    return is_refused(device_step(&on->device, time, disabled), SNJOFRASK_REFUSAL_UNSOUND) &&
+           is_refused(transport_step(&on->transport, time, disabled), SNJOFRASK_REFUSAL_UNSOUND) &&
+           snjofrask_is_winking(&on->device, time) == SNJOFRASK_REFUSAL_UNSOUND &&
+           snjofrask_is_locked(&on->device.hid, time) == SNJOFRASK_REFUSAL_UNSOUND &&
+           snjofrask_is_locked(&on->transport, time) == SNJOFRASK_REFUSAL_UNSOUND;
+}
+
+/* Whether both are refused with this number, disabled too, past the deadline and at a wrong time, and every byte is as it came. */
 static int is_wrong_due(const both *on, uint16_t due)
 {
-    const uint64_t time = 50;
     both came = *on;
     both left;
 
@@ -620,13 +629,8 @@ static int is_wrong_due(const both *on, uint16_t due)
     left = came;
     memset(message, 0xEE, sizeof message);
     memset(reply, 0xEE, sizeof reply);
-    for (uint8_t disabled = 0; disabled < 2; disabled++)
-        if (!is_refused(device_step(&left.device, time, disabled), SNJOFRASK_REFUSAL_UNSOUND) ||
-            !is_refused(transport_step(&left.transport, time, disabled), SNJOFRASK_REFUSAL_UNSOUND))
-            return 0;
-    return snjofrask_is_winking(&left.device, time) == SNJOFRASK_REFUSAL_UNSOUND &&
-           snjofrask_is_locked(&left.device.hid, time) == SNJOFRASK_REFUSAL_UNSOUND &&
-           snjofrask_is_locked(&left.transport, time) == SNJOFRASK_REFUSAL_UNSOUND && memcmp(&left, &came, sizeof came) == 0 &&
+    return are_unsound(&left, 99, 0) && are_unsound(&left, 99, 1) && are_unsound(&left, 100, 0) &&
+           are_unsound(&left, SNJOFRASK_LAST_TIME_MS + 1, 0) && memcmp(&left, &came, sizeof came) == 0 &&
            all_are(message, sizeof message, 0xEE) && all_are(reply, sizeof reply, 0xEE);
 }
 
@@ -648,7 +652,7 @@ static void wrong_due(void)
     }
 }
 
-/* A wrong packet and short buffers are told first, a wrong time after. */
+/* A wrong packet and short buffers are told first. */
 static void wrong_due_in_order(void)
 {
     both on;
@@ -658,12 +662,10 @@ static void wrong_due_in_order(void)
     put(1, SNJOFRASK_CMD_PING, 58, 1);
     CHECK(is_refused(snjofrask_device_step(&on.device, 0, 0, packet, 63, message, sizeof message, reply, 17), SNJOFRASK_REFUSAL_PACKET_SIZE));
     CHECK(is_refused(snjofrask_transport_step(&on.transport, 0, 0, packet, 63, message, sizeof message, reply, 17), SNJOFRASK_REFUSAL_PACKET_SIZE));
+    CHECK(is_refused(snjofrask_device_step(&on.device, 0, 0, packet, 64, message, 0, reply, 17), SNJOFRASK_REFUSAL_SHORT_BUFFER));
+    CHECK(is_refused(snjofrask_transport_step(&on.transport, 0, 0, packet, 64, message, 0, reply, 17), SNJOFRASK_REFUSAL_SHORT_BUFFER));
     CHECK(is_refused(snjofrask_device_step(&on.device, 0, 0, packet, 64, message, sizeof message, reply, 16), SNJOFRASK_REFUSAL_SHORT_BUFFER));
     CHECK(is_refused(snjofrask_transport_step(&on.transport, 0, 0, packet, 64, message, sizeof message, reply, 16), SNJOFRASK_REFUSAL_SHORT_BUFFER));
-    CHECK(is_refused(device_step(&on.device, SNJOFRASK_LAST_TIME_MS + 1, 0), SNJOFRASK_REFUSAL_UNSOUND));
-    CHECK(is_refused(transport_step(&on.transport, SNJOFRASK_LAST_TIME_MS + 1, 0), SNJOFRASK_REFUSAL_UNSOUND));
-    CHECK(snjofrask_is_winking(&on.device, SNJOFRASK_LAST_TIME_MS + 1) == SNJOFRASK_REFUSAL_UNSOUND);
-    CHECK(snjofrask_is_locked(&on.transport, SNJOFRASK_LAST_TIME_MS + 1) == SNJOFRASK_REFUSAL_UNSOUND);
 }
 
 /* ---- a host */
