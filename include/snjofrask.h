@@ -79,9 +79,9 @@ extern "C" {
 /* ---- numbers */
 
 /* Of the library: header and archive belong together. */
-#define SNJOFRASK_VERSION "0.5.0"
+#define SNJOFRASK_VERSION "0.6.0"
 #define SNJOFRASK_VERSION_MAJOR 0
-#define SNJOFRASK_VERSION_MINOR 5
+#define SNJOFRASK_VERSION_MINOR 6
 #define SNJOFRASK_VERSION_PATCH 0
 
 /* Limits: bytes and milliseconds. */
@@ -179,8 +179,11 @@ typedef struct snjofrask_assembler {
     uint16_t seq;
 } snjofrask_assembler;
 
-/* A transport. Channels 1 to allocated are allocated; channel locked holds the lock until the time lock; last is the time of the latest step.
-   vendor has a bit for each vendor command, the lowest for 64: it is set where the command is known. spare and later are ignored, and stay as they are. */
+/* A transport. Channels 1 to allocated are allocated; channel locked holds the lock until the time lock; last is the time of
+   the latest step. vendor has a bit for each vendor command, the lowest for 64: it is set where the command is known. spare
+   is ignored, and stays as it is.
+   still_due: how many continuation packets the message on its way in still needs, 0 where there is none. A key's light reads
+   it. A message whose time is over keeps it until a packet drops it. A state with a wrong one is refused with 3. */
 typedef struct snjofrask_transport {
     snjofrask_assembler assembler;
     uint64_t lock;
@@ -191,7 +194,7 @@ typedef struct snjofrask_transport {
     uint32_t max;
     uint8_t u2f;
     uint8_t spare;
-    uint16_t later;
+    uint16_t still_due;
 } snjofrask_transport;
 
 /* A device: a transport, and a wink that runs until the time wink. */
@@ -256,7 +259,7 @@ SNJOFRASK_ASSERT(offsetof(snjofrask_transport, locked) == 52);
 SNJOFRASK_ASSERT(offsetof(snjofrask_transport, max) == 56);
 SNJOFRASK_ASSERT(offsetof(snjofrask_transport, u2f) == 60);
 SNJOFRASK_ASSERT(offsetof(snjofrask_transport, spare) == 61);
-SNJOFRASK_ASSERT(offsetof(snjofrask_transport, later) == 62);
+SNJOFRASK_ASSERT(offsetof(snjofrask_transport, still_due) == 62);
 
 SNJOFRASK_ASSERT(sizeof(snjofrask_device) == 72);
 SNJOFRASK_ASSERT(SNJOFRASK_ALIGNMENT(snjofrask_device) == 8);

@@ -17,7 +17,8 @@ static void report(const char *text, int line)
 
 static void report(const char *text, int line)
 {
-    const uint8_t number[] = {(uint8_t)('0' + line / 100), (uint8_t)('0' + line / 10 % 10), (uint8_t)('0' + line % 10), ' '};
+    const uint8_t number[] = {(uint8_t)('0' + line / 1000), (uint8_t)('0' + line / 100 % 10), (uint8_t)('0' + line / 10 % 10),
+                              (uint8_t)('0' + line % 10), ' '};
     size_t len = 0;
 
     while (text[len] != 0)
@@ -227,10 +228,9 @@ static void device_of_others(void)
     /* with any bits here it makes sense */
     device.hid.vendor = ~(uint64_t)0;
     device.hid.spare = 0xFF;
-    device.hid.later = 0xFFFF;
     CHECK(is(device_step(&device, 0, 0), SNJOFRASK_KIND_REPLY, SNJOFRASK_CHANNEL_BROADCAST, SNJOFRASK_CMD_ERROR, 1));
     CHECK(snjofrask_is_winking(&device, 0) == 0 && snjofrask_is_locked(&device.hid, 0) == 0);
-    CHECK(device.hid.vendor == ~(uint64_t)0 && device.hid.spare == 0xFF && device.hid.later == 0xFFFF);
+    CHECK(device.hid.vendor == ~(uint64_t)0 && device.hid.spare == 0xFF);
 }
 
 /* half a message stands in the buffer while the device is disabled, and goes on after */
@@ -325,7 +325,7 @@ static int is_set_up(const uint8_t *vendor, size_t vendor_len, uint64_t bits)
     snjofrask_device device;
     snjofrask_transport transport;
 
-    CHECK(device_new(&fresh, 57, 1) == 0 && fresh.hid.vendor == 0 && fresh.hid.spare == 0 && fresh.hid.later == 0);
+    CHECK(device_new(&fresh, 57, 1) == 0 && fresh.hid.vendor == 0 && fresh.hid.spare == 0 && fresh.hid.still_due == 0);
     fresh.hid.vendor = bits;
     memset(&device, 0xEE, sizeof device);
     memset(&transport, 0xEE, sizeof transport);
@@ -441,7 +441,6 @@ static void vendor_messages(void)
     CHECK(snjofrask_transport_new(&transport, SNJOFRASK_LARGEST_PAYLOAD, 0, vendor, sizeof vendor) == 0);
     memset(vendor, 65, sizeof vendor);
     device.hid.spare = transport.spare = 0x11;
-    device.hid.later = transport.later = 0x2233;
     put(SNJOFRASK_CHANNEL_BROADCAST, SNJOFRASK_CMD_INIT, 8, 0);
     CHECK(device_step(&device, 0, 0).cmd == SNJOFRASK_CMD_INIT && transport_step(&transport, 0, 0).cmd == SNJOFRASK_CMD_INIT);
     for (size_t i = 0; i < sizeof lengths / sizeof lengths[0]; i++)
@@ -455,13 +454,218 @@ static void vendor_messages(void)
             }
         }
     CHECK(device.hid.vendor == 0x8000000000000001 && transport.vendor == 0x8000000000000001);
-    CHECK(device.hid.spare == 0x11 && device.hid.later == 0x2233);
-    CHECK(transport.spare == 0x11 && transport.later == 0x2233);
+    CHECK(device.hid.spare == 0x11 && transport.spare == 0x11);
 
     /* while it works on one it is disabled, and tells so whatever the command */
     put(1, 64, 1, 0);
     CHECK(is(device_step(&device, 0, 1), SNJOFRASK_KIND_REPLY, 1, SNJOFRASK_CMD_ERROR, 1));
     CHECK(reply[0] == SNJOFRASK_ERR_CHANNEL_BUSY);
+}
+
+/* ---- packets still due */
+
+/* A device and a transport that hear the same packets. */
+typedef struct both {
+    snjofrask_device device;
+    snjofrask_transport transport;
+} both;
+
+/* the lengths of messages, and how many packets are due after the first */
+static const size_t due_lengths[] = {0, 57, 58, 116, 117, 7550, 7551, SNJOFRASK_LARGEST_PAYLOAD};
+static const uint16_t due_counts[] = {0, 0, 1, 1, 2, 127, 128, 128};
+
+static int are_due(const both *on, int due)
+{
+    return on->device.hid.still_due == due && on->transport.still_due == due;
+}
+
+/* The number of the error that a packet is told, 0 where it is told none. */
+static int error_told(snjofrask_outcome outcome)
+{
+    CHECK(outcome.kind != SNJOFRASK_KIND_REFUSED);
+    return outcome.cmd == SNJOFRASK_CMD_ERROR ? reply[0] : 0;
+}
+
+/* Whether the packet is told this error by both, and this many are due to both then. */
+static int leaves_due(both *on, uint64_t time, uint8_t disabled, int error, int due)
+{
+    return error_told(device_step(&on->device, time, disabled)) == error &&
+           error_told(transport_step(&on->transport, time, disabled)) == error && are_due(on, due);
+}
+
+/* Both are fresh, with channels 1 and 2. */
+static void set_up_both(both *on)
+{
+    memset(on, 0xEE, sizeof *on);
+    CHECK(device_new(&on->device, SNJOFRASK_LARGEST_PAYLOAD, 1) == 0);
+    CHECK(transport_new(&on->transport, SNJOFRASK_LARGEST_PAYLOAD, 1) == 0);
+    CHECK(are_due(on, 0));
+    put(SNJOFRASK_CHANNEL_BROADCAST, SNJOFRASK_CMD_INIT, 8, 0);
+    for (int channel = 1; channel <= 2; channel++)
+        CHECK(leaves_due(on, 0, 0, 0, 0) && reply[11] == channel);
+}
+
+/* The same, and channel 1 has sent so many packets of a PING at time 0. */
+static void begin_both(both *on, size_t len, size_t sent)
+{
+    set_up_both(on);
+    for (size_t index = 0; index < sent; index++) {
+        put(1, SNJOFRASK_CMD_PING, len, index);
+        CHECK(leaves_due(on, 0, 0, 0, (int)(snjofrask_packet_count(len).len - 1 - index)));
+    }
+}
+
+static void due_goes_down(void)
+{
+    both on;
+
+    set_up_both(&on);
+    for (size_t i = 0; i < sizeof due_lengths / sizeof due_lengths[0]; i++)
+        for (uint16_t index = 0; index <= due_counts[i]; index++) {
+            put(1, SNJOFRASK_CMD_PING, due_lengths[i], index);
+            CHECK(leaves_due(&on, 0, 0, 0, due_counts[i] - index));
+        }
+}
+
+/* Others are answered, or the own packet while disabled: the message goes on after. */
+static void due_stays(void)
+{
+    both on;
+
+    begin_both(&on, 117, 1);
+    put(2, SNJOFRASK_CMD_PING, 58, 0);
+    CHECK(leaves_due(&on, 99, 0, SNJOFRASK_ERR_CHANNEL_BUSY, 2) && leaves_due(&on, 99, 1, SNJOFRASK_ERR_CHANNEL_BUSY, 2));
+    put(2, SNJOFRASK_CMD_PING, 58, 1);
+    CHECK(leaves_due(&on, 99, 0, SNJOFRASK_ERR_CHANNEL_BUSY, 2) && leaves_due(&on, 99, 1, SNJOFRASK_ERR_CHANNEL_BUSY, 2));
+    put(3, SNJOFRASK_CMD_PING, 58, 0);
+    CHECK(leaves_due(&on, 99, 0, SNJOFRASK_ERR_INVALID_CHANNEL, 2));
+    put(3, SNJOFRASK_CMD_PING, 58, 1);
+    CHECK(leaves_due(&on, 99, 0, 0, 2));
+    put(SNJOFRASK_CHANNEL_BROADCAST, SNJOFRASK_CMD_INIT, 8, 0);
+    CHECK(leaves_due(&on, 99, 0, SNJOFRASK_ERR_CHANNEL_BUSY, 2));
+    put(1, SNJOFRASK_CMD_PING, 117, 1);
+    CHECK(leaves_due(&on, 99, 1, SNJOFRASK_ERR_CHANNEL_BUSY, 2) && leaves_due(&on, 99, 0, 0, 1));
+}
+
+/* By a wrong number, and by first packets, of which INIT begins anew. */
+static void due_of_a_dropped(void)
+{
+    both on;
+
+    for (size_t wrong = 0; wrong < 4; wrong++)
+        if (wrong != 2) {
+            begin_both(&on, 300, 2);
+            put(1, SNJOFRASK_CMD_PING, 300, wrong);
+            CHECK(leaves_due(&on, 0, 0, SNJOFRASK_ERR_INVALID_SEQ, 0));
+        }
+    begin_both(&on, 300, 2);
+    put(1, SNJOFRASK_CMD_CANCEL, 0, 0);
+    CHECK(leaves_due(&on, 0, 0, SNJOFRASK_ERR_INVALID_SEQ, 0));
+    begin_both(&on, 300, 2);
+    put(1, SNJOFRASK_CMD_INIT, 8, 0);
+    CHECK(leaves_due(&on, 0, 0, 0, 0));
+    begin_both(&on, 300, 2);
+    put(1, SNJOFRASK_CMD_INIT, 117, 0);
+    CHECK(leaves_due(&on, 0, 0, 0, 2));
+}
+
+/* A message on channel 1 whose time is over, and packets and questions that leave its number. */
+static void run_out_both(both *on)
+{
+    begin_both(on, 300, 1);
+    put(1, SNJOFRASK_CMD_PING, 300, 1);
+    CHECK(leaves_due(on, 100, 1, SNJOFRASK_ERR_CHANNEL_BUSY, 5));
+    put(3, SNJOFRASK_CMD_PING, 58, 0);
+    CHECK(leaves_due(on, 100, 0, SNJOFRASK_ERR_INVALID_CHANNEL, 5));
+    CHECK(snjofrask_is_winking(&on->device, 200) == 0 && snjofrask_is_locked(&on->device.hid, 200) == 0);
+    CHECK(snjofrask_is_locked(&on->transport, 200) == 0 && are_due(on, 5));
+}
+
+/* Any packet drops it that is neither told that the device is busy nor on a channel that isn't valid. */
+static void due_past_the_deadline(void)
+{
+    both on;
+
+    run_out_both(&on);
+    put(1, SNJOFRASK_CMD_PING, 300, 1);
+    CHECK(leaves_due(&on, 200, 0, SNJOFRASK_ERR_MSG_TIMEOUT, 0));
+    run_out_both(&on);
+    put(1, SNJOFRASK_CMD_PING, 117, 0);
+    CHECK(leaves_due(&on, 200, 0, 0, 2));
+    run_out_both(&on);
+    put(2, SNJOFRASK_CMD_PING, 300, 1);
+    CHECK(leaves_due(&on, 200, 0, 0, 0));
+    run_out_both(&on);
+    put(2, SNJOFRASK_CMD_PING, 58, 0);
+    CHECK(leaves_due(&on, 200, 0, 0, 1));
+
+    /* the channel with the lock has a message: the other one is told that it is locked out */
+    begin_both(&on, 0, 0);
+    put(1, SNJOFRASK_CMD_LOCK, 1, 0);
+    CHECK(leaves_due(&on, 0, 0, 0, 0));
+    put(1, SNJOFRASK_CMD_PING, 300, 0);
+    CHECK(leaves_due(&on, 0, 0, 0, 5));
+    put(2, SNJOFRASK_CMD_PING, 58, 0);
+    CHECK(leaves_due(&on, 999, 0, SNJOFRASK_ERR_CHANNEL_BUSY, 5) && leaves_due(&on, 1000, 0, 0, 1));
+}
+
+/* Whether steps and questions find both unsound. */
+static int are_unsound(both *on, uint64_t time, uint8_t disabled)
+{
+    return is_refused(device_step(&on->device, time, disabled), SNJOFRASK_REFUSAL_UNSOUND) &&
+           is_refused(transport_step(&on->transport, time, disabled), SNJOFRASK_REFUSAL_UNSOUND) &&
+           snjofrask_is_winking(&on->device, time) == SNJOFRASK_REFUSAL_UNSOUND &&
+           snjofrask_is_locked(&on->device.hid, time) == SNJOFRASK_REFUSAL_UNSOUND &&
+           snjofrask_is_locked(&on->transport, time) == SNJOFRASK_REFUSAL_UNSOUND;
+}
+
+/* Whether both are refused with this number, disabled too, past the deadline and at a wrong time, and every byte is as it came. */
+static int is_wrong_due(const both *on, uint16_t due)
+{
+    both came = *on;
+    both left;
+
+    came.device.hid.still_due = came.transport.still_due = due;
+    left = came;
+    memset(message, 0xEE, sizeof message);
+    memset(reply, 0xEE, sizeof reply);
+    return are_unsound(&left, 99, 0) && are_unsound(&left, 99, 1) && are_unsound(&left, 100, 0) &&
+           are_unsound(&left, SNJOFRASK_LAST_TIME_MS + 1, 0) && memcmp(&left, &came, sizeof came) == 0 &&
+           all_are(message, sizeof message, 0xEE) && all_are(reply, sizeof reply, 0xEE);
+}
+
+/* One too many, one too few, and any bit wrong: before a message, inside it and after it, for its next packet and another channel's. */
+static void wrong_due(void)
+{
+    static const size_t sent[] = {0, 1, 2, 128, 129};
+    static const uint16_t due[] = {0, 128, 127, 1, 0};
+    both on;
+
+    for (size_t i = 0; i < sizeof sent / sizeof sent[0]; i++) {
+        begin_both(&on, SNJOFRASK_LARGEST_PAYLOAD, sent[i]);
+        for (uint32_t cid = 1; cid <= 2; cid++) {
+            put(cid, SNJOFRASK_CMD_PING, SNJOFRASK_LARGEST_PAYLOAD, sent[i] % 129);
+            CHECK(is_wrong_due(&on, (uint16_t)(due[i] + 1)) && is_wrong_due(&on, (uint16_t)(due[i] - 1)));
+            for (int bit = 0; bit < 16; bit++)
+                CHECK(is_wrong_due(&on, (uint16_t)(due[i] ^ (1 << bit))));
+        }
+    }
+}
+
+/* A wrong packet and short buffers are told first. */
+static void wrong_due_in_order(void)
+{
+    both on;
+
+    begin_both(&on, 58, 1);
+    on.device.hid.still_due = on.transport.still_due = 2;
+    put(1, SNJOFRASK_CMD_PING, 58, 1);
+    CHECK(is_refused(snjofrask_device_step(&on.device, 0, 0, packet, 63, message, sizeof message, reply, 17), SNJOFRASK_REFUSAL_PACKET_SIZE));
+    CHECK(is_refused(snjofrask_transport_step(&on.transport, 0, 0, packet, 63, message, sizeof message, reply, 17), SNJOFRASK_REFUSAL_PACKET_SIZE));
+    CHECK(is_refused(snjofrask_device_step(&on.device, 0, 0, packet, 64, message, 0, reply, 17), SNJOFRASK_REFUSAL_SHORT_BUFFER));
+    CHECK(is_refused(snjofrask_transport_step(&on.transport, 0, 0, packet, 64, message, 0, reply, 17), SNJOFRASK_REFUSAL_SHORT_BUFFER));
+    CHECK(is_refused(snjofrask_device_step(&on.device, 0, 0, packet, 64, message, sizeof message, reply, 16), SNJOFRASK_REFUSAL_SHORT_BUFFER));
+    CHECK(is_refused(snjofrask_transport_step(&on.transport, 0, 0, packet, 64, message, sizeof message, reply, 16), SNJOFRASK_REFUSAL_SHORT_BUFFER));
 }
 
 /* ---- a host */
@@ -770,6 +974,12 @@ int main(void)
     vendor_lists();
     wrong_vendor_lists();
     vendor_messages();
+    due_goes_down();
+    due_stays();
+    due_of_a_dropped();
+    due_past_the_deadline();
+    wrong_due();
+    wrong_due_in_order();
     hosts();
     init_replies();
     lending_to_a_device();

@@ -139,6 +139,26 @@ impl<'b> CtapHid<'b> {
         running(raw::is_locked(&self.state, time_ms))
     }
 
+    /// How many continuation packets the message on its way in still needs, 0 where there is none: for a light that shows
+    /// progress. A message whose time is over keeps it until a packet drops it.
+    ///
+    /// ```
+    /// use snjofrask::{CHANNEL_BROADCAST, CtapHid, CtapHidCommand, Message, Refusal};
+    ///
+    /// let mut buffer = [0; 100];
+    /// let mut hid = CtapHid::new(&mut buffer, true, &[])?;
+    /// let init = Message { cid: CHANNEL_BROADCAST, cmd: CtapHidCommand::Init, payload: &[0; 8] };
+    /// let ping = Message { cid: [0, 0, 0, 1], cmd: CtapHidCommand::Ping, payload: &[0; 58] };
+    /// for (packet, still_due) in [init, ping].into_iter().flat_map(CtapHid::split_message).zip([0, 1, 0]) {
+    ///     hid.parse_packet(0, &packet, false)?;
+    ///     assert_eq!(hid.still_due(), still_due);
+    /// }
+    /// # Ok::<(), Refusal>(())
+    /// ```
+    pub fn still_due(&self) -> u16 {
+        self.state.still_due
+    }
+
     /// An ERROR.
     ///
     /// ```

@@ -128,4 +128,26 @@ impl<'b> MainHid<'b> {
     pub fn should_wink(&self, time_ms: u64) -> Result<bool, Refusal> {
         running(raw::is_winking(&self.state, time_ms))
     }
+
+    /// How many continuation packets the message on its way in still needs, 0 where there is none: for a light that shows
+    /// progress. A message whose time is over keeps it until a packet drops it.
+    ///
+    /// ```
+    /// use snjofrask::{CHANNEL_BROADCAST, CtapHid, CtapHidCommand, MainHid, Message, Refusal};
+    ///
+    /// let mut buffer = [0; 300];
+    /// let mut device = MainHid::new(&mut buffer, true, &[])?;
+    /// let init = Message { cid: CHANNEL_BROADCAST, cmd: CtapHidCommand::Init, payload: &[0; 8] };
+    /// let ping = Message { cid: [0, 0, 0, 1], cmd: CtapHidCommand::Ping, payload: &[0; 300] };
+    /// let mut shown = Vec::new();
+    /// for packet in [init, ping].into_iter().flat_map(CtapHid::split_message) {
+    ///     device.process_hid_packet(0, &packet, false)?;
+    ///     shown.push(device.still_due());
+    /// }
+    /// assert_eq!(shown, [0, 5, 4, 3, 2, 1, 0]);
+    /// # Ok::<(), Refusal>(())
+    /// ```
+    pub fn still_due(&self) -> u16 {
+        self.state.hid.still_due
+    }
 }

@@ -26,7 +26,7 @@ pub struct CtapHid {
     pub max: u32,
     pub u2f: u8,
     pub spare: u8,
-    pub later: u16,
+    pub still_due: u16,
 }
 
 #[repr(C)]

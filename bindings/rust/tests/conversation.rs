@@ -1,6 +1,6 @@
 //! A host and a device, both of this crate, over packets: every length of message that stands at a boundary.
 use snjofrask::{
-    CHANNEL_BROADCAST, ChannelID, Collection, CtapHid, CtapHidCommand, CtapHidError,
+    CHANNEL_BROADCAST, ChannelID, Collection, CtapHid, CtapHidCommand, CtapHidError, HidPacket,
     HidPacketIterator, LARGEST_PAYLOAD, LAST_TIME_MS, MainHid, Message, Parsed, Processed,
     Progress, Refusal, init_reply,
 };
@@ -368,6 +368,192 @@ fn a_message_out_of_order() {
     }
     let told = CtapHid::split_message(CtapHid::error_message(cid, CtapHidError::InvalidSeq));
     assert_eq!(sent, told.collect::<Vec<_>>());
+}
+
+/// How many continuations a message of so many bytes has.
+const CONTINUATIONS: [(usize, u16); 9] = [
+    (0, 0),
+    (57, 0),
+    (58, 1),
+    (116, 1),
+    (117, 2),
+    (300, 5),
+    (7550, 127),
+    (7551, 128),
+    (7609, 128),
+];
+
+const ONE: ChannelID = [0, 0, 0, 1];
+const TWO: ChannelID = [0, 0, 0, 2];
+/// It is not allocated.
+const THREE: ChannelID = [0, 0, 0, 3];
+
+const BUSY: Option<u8> = Some(CtapHidError::ChannelBusy as u8);
+const NO_CHANNEL: Option<u8> = Some(CtapHidError::InvalidChannel as u8);
+const OUT_OF_ORDER: Option<u8> = Some(CtapHidError::InvalidSeq as u8);
+const TOO_LATE: Option<u8> = Some(CtapHidError::MsgTimeout as u8);
+
+/// One packet of a message of zeros.
+fn packet(cid: ChannelID, cmd: CtapHidCommand, len: usize, index: usize) -> HidPacket {
+    let payload = &[0; LARGEST_PAYLOAD][..len];
+    let mut packets = HidPacketIterator::new(Message { cid, cmd, payload }).unwrap();
+    packets.nth(index).unwrap()
+}
+
+fn ping(cid: ChannelID, len: usize, index: usize) -> HidPacket {
+    packet(cid, CtapHidCommand::Ping, len, index)
+}
+
+/// A device with channels 1 and 2.
+fn with_two_channels(buffer: &mut [u8]) -> MainHid<'_> {
+    let mut device = MainHid::new(buffer, true, &[]).unwrap();
+    assert_eq!(device.still_due(), 0);
+    assert_eq!(init(&mut device, 0, [1; 8]).0, ONE);
+    assert_eq!(init(&mut device, 0, [2; 8]).0, TWO);
+    assert_eq!(device.still_due(), 0);
+    device
+}
+
+/// The error that a packet is told, if it is told one, and how many packets are still due then.
+fn told(
+    device: &mut MainHid,
+    time_ms: u64,
+    is_transport_disabled: bool,
+    packet: HidPacket,
+) -> (Option<u8>, u16) {
+    let processed = device.process_hid_packet(time_ms, &packet, is_transport_disabled);
+    let Ok(Processed::Packets(mut packets)) = processed else {
+        panic!("{processed:?}");
+    };
+    let error = packets.next().filter(|reply| reply[4] == 0xBF);
+    (error.map(|reply| reply[7]), device.still_due())
+}
+
+#[test]
+fn packets_still_due_go_down() {
+    let mut buffer = [0; LARGEST_PAYLOAD];
+    let mut device = with_two_channels(&mut buffer);
+    for (len, continuations) in CONTINUATIONS {
+        for (index, still_due) in (0..=continuations).rev().enumerate() {
+            let wanted = (None, still_due);
+            let ping = ping(TWO, len, index);
+            assert_eq!(told(&mut device, 0, false, ping), wanted, "{len} bytes");
+        }
+    }
+}
+
+#[test]
+fn packets_still_due_to_a_transport() {
+    let mut buffer = [0; LARGEST_PAYLOAD];
+    let mut hid = CtapHid::new(&mut buffer, true, &[]).unwrap();
+    assert_eq!(hid.still_due(), 0);
+    let mut due_after = |time_ms, disabled, packet| {
+        hid.parse_packet(time_ms, &packet, disabled).unwrap();
+        hid.still_due()
+    };
+    let init = packet(CHANNEL_BROADCAST, CtapHidCommand::Init, 8, 0);
+    assert_eq!(due_after(0, false, init), 0);
+    for (len, continuations) in CONTINUATIONS {
+        for (index, still_due) in (0..=continuations).rev().enumerate() {
+            let ping = ping(ONE, len, index);
+            assert_eq!(due_after(0, false, ping), still_due, "{len} bytes");
+        }
+    }
+
+    // dropped by a wrong number
+    assert_eq!(due_after(0, false, ping(ONE, 300, 0)), 5);
+    assert_eq!(due_after(0, false, ping(ONE, 300, 2)), 0);
+    // its time is over, which only a packet that is heard finds
+    assert_eq!(due_after(0, false, ping(ONE, 300, 0)), 5);
+    assert_eq!(due_after(100, true, ping(ONE, 300, 1)), 5);
+    assert_eq!(due_after(100, false, ping(TWO, 300, 1)), 5);
+    assert_eq!(due_after(100, false, ping(ONE, 300, 1)), 0);
+}
+
+#[test]
+fn packets_still_due_while_others_are_told() {
+    let mut buffer = [0; 300];
+    let mut device = with_two_channels(&mut buffer);
+    let init = packet(CHANNEL_BROADCAST, CtapHidCommand::Init, 8, 0);
+    assert_eq!(told(&mut device, 0, false, ping(ONE, 300, 0)), (None, 5));
+    for (disabled, packet, error) in [
+        (false, ping(TWO, 58, 0), BUSY),
+        (false, ping(TWO, 58, 1), BUSY),
+        (false, init, BUSY),
+        (false, ping(THREE, 58, 0), NO_CHANNEL),
+        (false, ping(THREE, 58, 1), None),
+        (true, ping(TWO, 58, 0), BUSY),
+        (true, ping(ONE, 300, 1), BUSY),
+        (true, ping(ONE, 300, 3), BUSY),
+    ] {
+        assert_eq!(told(&mut device, 99, disabled, packet), (error, 5));
+    }
+    // nor does a packet alter it that is refused
+    let refused = device.process_hid_packet(98, &ping(ONE, 300, 1), false);
+    assert_eq!(refused.err(), Some(Refusal::Time));
+    assert_eq!(device.still_due(), 5);
+    assert_eq!(told(&mut device, 99, false, ping(ONE, 300, 1)), (None, 4));
+}
+
+#[test]
+fn packets_still_due_of_a_message_that_is_dropped() {
+    for (packet, wanted) in [
+        (ping(ONE, 300, 1), (OUT_OF_ORDER, 0)),
+        (ping(ONE, 300, 3), (OUT_OF_ORDER, 0)),
+        (ping(ONE, 300, 0), (OUT_OF_ORDER, 0)),
+        (packet(ONE, CtapHidCommand::Cancel, 0, 0), (OUT_OF_ORDER, 0)),
+        // this one begins anew
+        (packet(ONE, CtapHidCommand::Init, 8, 0), (None, 0)),
+        (packet(ONE, CtapHidCommand::Init, 117, 0), (None, 2)),
+    ] {
+        let mut buffer = [0; 300];
+        let mut device = with_two_channels(&mut buffer);
+        assert_eq!(told(&mut device, 0, false, ping(ONE, 300, 0)), (None, 5));
+        assert_eq!(told(&mut device, 0, false, ping(ONE, 300, 1)), (None, 4));
+        assert_eq!(told(&mut device, 0, false, packet), wanted);
+    }
+}
+
+#[test]
+fn packets_still_due_past_the_deadline() {
+    for (packet, wanted) in [
+        (ping(ONE, 300, 1), (TOO_LATE, 0)),
+        (ping(ONE, 117, 0), (None, 2)),
+        (ping(TWO, 300, 1), (None, 0)),
+        (ping(TWO, 57, 0), (None, 0)),
+        (ping(TWO, 58, 0), (None, 1)),
+    ] {
+        let mut buffer = [0; 300];
+        let mut device = with_two_channels(&mut buffer);
+        assert_eq!(told(&mut device, 0, false, ping(ONE, 300, 0)), (None, 5));
+        // none of these is heard
+        assert_eq!(told(&mut device, 100, true, packet), (BUSY, 5));
+        let of_three = ping(THREE, 300, 0);
+        assert_eq!(told(&mut device, 100, false, of_three), (NO_CHANNEL, 5));
+        assert_eq!(device.has_channel_lock(200), Ok(false));
+        assert_eq!(device.should_wink(200), Ok(false));
+        assert_eq!(device.still_due(), 5);
+        assert_eq!(told(&mut device, 200, false, packet), wanted);
+    }
+}
+
+#[test]
+fn packets_still_due_of_the_channel_with_the_lock() {
+    let mut buffer = [0; 300];
+    let mut device = with_two_channels(&mut buffer);
+    let lock = Message {
+        cid: TWO,
+        cmd: CtapHidCommand::Lock,
+        payload: &[10],
+    };
+    assert_eq!(ask(&mut device, 0, lock), Ok(Some((4, vec![]))));
+    assert_eq!(told(&mut device, 0, false, ping(TWO, 300, 0)), (None, 5));
+    for time_ms in [0, 99, 100, 9999] {
+        let of_one = ping(ONE, 58, 0);
+        assert_eq!(told(&mut device, time_ms, false, of_one), (BUSY, 5));
+    }
+    let goes_on = ping(TWO, 300, 1);
+    assert_eq!(told(&mut device, 9999, false, goes_on), (TOO_LATE, 0));
 }
 
 #[test]

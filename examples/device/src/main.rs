@@ -1,9 +1,11 @@
-//! A CTAPHID device on a pipe. README.md beside this says what it answers and which variables it reads.
+//! A CTAPHID device on a pipe. README.md beside this says what it answers, what it can be asked to show and which variables it reads.
 mod answers;
 mod label;
+mod progress;
 
 use answers::{Answer, KEEPALIVE_CANCEL, USER_ACTION_TIMEOUT, answer};
 use label::Label;
+use progress::Progress;
 use snjofrask::{
     ChannelID, CtapHid, CtapHidCommand, HidPacket, HidPacketIterator, KeepaliveStatus,
     LARGEST_PAYLOAD, MainHid, Message, Processed, ProcessedPacket,
@@ -20,19 +22,36 @@ use std::time::{Duration, Instant};
 const KEEPALIVE_EVERY: Duration = Duration::from_millis(100);
 
 fn main() -> ExitCode {
-    let touch = match Touch::from_variables() {
-        Ok(touch) => touch,
+    let (progress, touch) = match asked() {
+        Ok(asked) => asked,
         Err(text) => {
             eprintln!("device: {text}");
             return ExitCode::from(2);
         }
     };
-    match serve(&touch) {
+    match serve(progress, &touch) {
         Ok(()) => ExitCode::SUCCESS,
         Err(error) => {
             eprintln!("device: {error}");
             ExitCode::FAILURE
         }
+    }
+}
+
+/// What arguments and variables ask for.
+fn asked() -> Result<(Progress, Touch), String> {
+    Ok((
+        Progress::new(is_progress_asked()?),
+        Touch::from_variables()?,
+    ))
+}
+
+fn is_progress_asked() -> Result<bool, String> {
+    let arguments: Vec<_> = env::args_os().skip(1).collect();
+    match arguments.as_slice() {
+        [] => Ok(false),
+        [argument] if argument == "--progress" => Ok(true),
+        _ => Err("the arguments make no sense; usage: ./device [--progress]".to_string()),
     }
 }
 
@@ -114,7 +133,7 @@ fn send(packets: HidPacketIterator) -> io::Result<()> {
     Ok(())
 }
 
-fn serve(touch: &Touch) -> Result<(), Box<dyn Error>> {
+fn serve(mut progress: Progress, touch: &Touch) -> Result<(), Box<dyn Error>> {
     let mut buffer = [0; LARGEST_PAYLOAD];
     let mut device = MainHid::new(&mut buffer, true, &[label::COMMAND])?;
     let mut label = Label::new();
@@ -126,7 +145,10 @@ fn serve(touch: &Touch) -> Result<(), Box<dyn Error>> {
             Processed::Request(request) => {
                 record(&request)?;
                 let Message { cid, cmd, .. } = request;
-                let payload = match answer(&request, &mut label) {
+                let answer = answer(&request, &mut label);
+                // during a wait it stays: disabled, the device begins no message
+                progress.show(device.still_due());
+                let payload = match answer {
                     Answer::AtOnce(payload) => payload,
                     Answer::AfterTouch(payload) => {
                         match wait_for_touch(touch, cid, &mut device, &arrivals)? {
@@ -140,6 +162,7 @@ fn serve(touch: &Touch) -> Result<(), Box<dyn Error>> {
                 send(CtapHid::split_message(Message { cid, cmd, payload }))?;
             }
         }
+        progress.show(device.still_due());
     }
     Ok(())
 }
