@@ -9,7 +9,7 @@ pub const BROADCAST: u32 = 0xffff_ffff;
 pub const VENDOR: std::ops::RangeInclusive<u8> = 0x40..=0x7f;
 
 /// Faults of a step, of set-up, and of the functions beside them.
-pub const FAULTS: [&str; 52] = [
+pub const FAULTS: [&str; 62] = [
     "first-number-1",
     "timer-99",
     "timer-101",
@@ -30,6 +30,16 @@ pub const FAULTS: [&str; 52] = [
     "last-byte-not-written",
     "reply-buffer-cleared",
     "57-begins-a-transaction",
+    "due-one-too-many",
+    "due-57",
+    "due-not-counted-down",
+    "due-kept-on-wrong-number",
+    "due-kept-on-first",
+    "due-kept-on-timeout",
+    "due-cleared-when-late",
+    "due-cleared-by-others",
+    "due-of-too-long",
+    "due-kept-at-set-up",
     "owed-byte-lost",
     "unlisted-handed-out",
     "listed-not-known",
@@ -223,6 +233,13 @@ impl Definition {
             effect.inner_reply = vec![number];
         };
 
+        // a transaction whose time is up stands, and its packets are due, until check 3 drops it
+        let running = self.hid.assembler;
+        let late = running.len > 0 && running.deadline <= time;
+        if late && self.is("due-cleared-when-late") {
+            self.hid.still_due = 0;
+        }
+
         // 1
         let valid = match cid {
             BROADCAST => {
@@ -249,24 +266,33 @@ impl Definition {
             "timer-101" => 101,
             _ => 100,
         };
-        let running = self.hid.assembler;
-        if running.len > 0 && running.deadline <= time {
+        if late {
             self.hid.assembler = MessageAssembler::default();
+            if !self.is("due-kept-on-timeout") {
+                self.hid.still_due = 0;
+            }
             if running.cid == cid && (!first || self.is("timeout-on-first")) {
                 return error(5);
             }
         }
         // 4 and 5
         let assembler = &mut self.hid.assembler;
+        let due = &mut self.hid.still_due;
         if assembler.len > 0 && assembler.cid != cid {
             if self.fault == "other-channel-is-life" {
                 assembler.deadline = time + life;
+            }
+            if self.fault == "due-cleared-by-others" {
+                *due = 0;
             }
             return error(6);
         }
         if first {
             if assembler.len > 0 {
                 *assembler = MessageAssembler::default();
+                if self.fault != "due-kept-on-first" {
+                    *due = 0;
+                }
                 if cmd == 17 && self.fault == "cancel-in-message" {
                     return;
                 }
@@ -280,9 +306,20 @@ impl Definition {
                 "length-under" => len > 0 && len >= self.hid.max,
                 _ => len > self.hid.max,
             };
+            // what the first packet has no room for comes later, 59 bytes at a time
+            let behind = len.saturating_sub(57) as u16;
+            let count = match self.fault {
+                "due-one-too-many" => behind.div_ceil(59) + 1,
+                "due-57" => behind.div_ceil(57),
+                _ => behind.div_ceil(59),
+            };
             if over {
+                if self.fault == "due-of-too-long" {
+                    *due = count;
+                }
                 return error(3);
             }
+            *due = count;
             *assembler = MessageAssembler {
                 deadline: time + life,
                 cid,
@@ -297,10 +334,17 @@ impl Definition {
             }
             if packet[4] as u16 != assembler.seq {
                 *assembler = MessageAssembler::default();
+                if self.fault != "due-kept-on-wrong-number" {
+                    *due = 0;
+                }
                 return error(4);
             }
             assembler.deadline = time + life;
             assembler.seq += 1;
+            if self.fault != "due-not-counted-down" {
+                // a fault may have cleared it
+                *due = due.saturating_sub(1);
+            }
         }
         // 6
         let from = if first { 7 } else { 5 };
@@ -321,6 +365,7 @@ impl Definition {
         let len = assembler.len as usize;
         let cmd = assembler.cmd as u8;
         self.hid.assembler = MessageAssembler::default();
+        self.hid.still_due = 0;
         // the message: what was there, and now this packet's bytes
         let byte = |i: usize| match i.checked_sub(effect.at) {
             Some(k) => packet[from + k],

@@ -226,15 +226,14 @@ impl Pair {
         our_inner.allocated = setup.allocated;
         our_outer.hid.allocated = setup.allocated;
         // ignored, and left as it is
-        let (spare, later) = (setup.scribble, u16::from_ne_bytes([setup.scribble; 2]));
-        (our_inner.spare, our_inner.later) = (spare, later);
-        (our_outer.hid.spare, our_outer.hid.later) = (spare, later);
+        our_inner.spare = setup.scribble;
+        our_outer.hid.spare = setup.scribble;
         let message = || Lent::new(setup.max + setup.slack);
         let reply = || Lent::new(17 + setup.slack);
         let definition = |fault| {
             let mut definition = Definition::new(setup.max, U2F, list, fault).unwrap();
             definition.hid.allocated = setup.allocated;
-            (definition.hid.spare, definition.hid.later) = (spare, later);
+            definition.hid.spare = setup.scribble;
             definition
         };
         Pair {
@@ -518,6 +517,10 @@ impl Pair {
             let our_transaction =
                 (a.len > 0).then_some((a.cid, a.cmd, a.seq, a.taken, a.len, a.deadline));
             same!(format!("{name}: transaction"), transaction, our_transaction);
+            // OpenSK counts bytes; due are as few continuations as hold the missing ones
+            let missing = peek.transaction.as_ref().map(|x| x.remaining_payload_len);
+            let due = missing.unwrap_or(0).div_ceil(59);
+            same!(format!("{name}: still due"), due, ours.still_due as usize);
             // of one that is over, ours no longer has them
             if let Some(x) = peek.transaction.filter(|x| x.timer.0 > Some(time)) {
                 let message = match name {
@@ -593,11 +596,13 @@ pub fn set_up(
             ours::raw::device_new(&mut outer, max, U2F, list),
         )
     } else {
-        let (refusal, hid) = told(Definition::new(max, U2F, list, fault));
-        outer = match fault {
-            "refused-set-up-alters" if refusal != 0 => ours::MainHid::default(),
-            _ => hid,
-        };
+        let (refusal, made) = told(Definition::new(max, U2F, list, fault));
+        outer = made;
+        match fault {
+            "refused-set-up-alters" if refusal != 0 => outer = ours::MainHid::default(),
+            "due-kept-at-set-up" => outer.hid.still_due = came.hid.still_due,
+            _ => (),
+        }
         inner = outer.hid;
         (refusal, refusal)
     };

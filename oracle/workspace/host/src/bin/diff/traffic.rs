@@ -154,7 +154,7 @@ pub fn set_up(random: &mut Random) -> (usize, Vec<u8>, MainHid) {
             max: number() as u32,
             u2f: number() as u8,
             spare: number() as u8,
-            later: number() as u16,
+            still_due: number() as u16,
         },
         wink: number(),
     };
