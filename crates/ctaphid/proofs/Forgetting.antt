@@ -8,9 +8,9 @@ use borrow.Author.Tests.{le-leb, leb-true}
 use lib.Dec.{leb}
 use Rattle.ctaphid.specs.Choice.{pick}
 use Rattle.ctaphid.specs.Packets.{Packet, initialization, continuation}
-use Rattle.ctaphid.specs.Receiver.{Transaction, Receiver, idle, busy, Turn, channelOf, whenOver, whenBusy, receive, isOn}
+use Rattle.ctaphid.specs.Receiver.{Transaction, Receiver, idle, busy, Turn, channelOf, whenOver, whenBusy, receive, isOn, stillDue}
 use Rattle.ctaphid.specs.Transport.{Transport, Next, isValid, isShut, settled, withReceiver, hear}
-use Rattle.ctaphid.proofs.Tests.{pick-known, both-pick}
+use Rattle.ctaphid.proofs.Tests.{pick-both, pick-known, both-pick}
 
 abbrev emptied : Transaction → Transaction
 emptied t =
@@ -37,6 +37,12 @@ pub forgotten-later : (time later : ℕ) (d e : Transport) → time ≤ later �
 forgotten-later time later d e h k =
     sym (ap (withReceiver d) (forgetting-later time later (d .receiver) h))
     ∙ (ap (forgotten later) k ∙ ap (withReceiver e) (forgetting-later time later (e .receiver) h))
+
+-- ---- what is still due doesn't go by them
+pub forgetting-due : (time : ℕ) (r : Receiver) → stillDue (forgetting time r) ≡ stillDue r
+unfolding forgetting
+forgetting-due time idle = refl
+forgetting-due time (busy t) = pick-both (λ (r : Receiver). stillDue r ≡ stillDue (busy t)) (leb (t .deadline) time) _ _ refl refl
 
 -- ---- no answer depends on them
 over-forgets : (max time : ℕ) (t : Transaction) (p : Packet) → whenOver max time (emptied t) p ≡ whenOver max time t p

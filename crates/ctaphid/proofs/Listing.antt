@@ -10,7 +10,7 @@ use Rattle.ctaphid.specs.Packets.{Packet, read}
 use Rattle.ctaphid.specs.Commands.{Command, MSG, CBOR, INIT, PING, CANCEL, ERROR, KEEPALIVE, WINK, LOCK, VENDOR, number, commandOf}
 use Rattle.ctaphid.specs.Errors.{InvalidCmd}
 use Rattle.ctaphid.specs.Receiver.{Reception, silent, fault, whole, Turn, channelOf, receive}
-use Rattle.ctaphid.specs.Transport.{Settings, listing, Transport, fresh, Event, Answer, nothing, reply, request, Next, next, error, broadcast, isValid, isShut, knows, obey, dispatch, onInit, onLock, withReceiver, settle, hear, step, answersOf, run}
+use Rattle.ctaphid.specs.Transport.{Settings, listing, Transport, fresh, Event, Answer, nothing, reply, request, Next, next, error, broadcast, isValid, isShut, knows, obey, dispatch, onInit, onLock, withReceiver, settle, hear, step, answersOf, afterwards, run}
 use Rattle.ctaphid.specs.Device.{Device, device, setUp, onWink, onMsg, onRequest, answered, deviceStep, OnlyMembersCount}
 use Rattle.ctaphid.specs.Demands.{standard, after, answer}
 use Rattle.ctaphid.proofs.Tests.{both-pick}
@@ -97,13 +97,19 @@ module _ (l : List ℕ) where
       both-pick LeadAlike (eqb (number cmd) 8) _ _ _ _ (λ w. both-pick LeadAlike (eqb (length payload) 0) _ _ _ _ (λ e. refl) (λ e. refl))
       (λ w. both-pick LeadAlike (eqb (number cmd) 3) _ _ _ _ (λ m. both-pick LeadAlike (d .settings .u2f) _ _ _ _ (λ e. refl) (λ e. refl)) (λ m. refl))
 
--- ---- runs: where each step goes through a function of states, so do the answers of any run
+-- ---- runs: where each step goes through a function of states, so do the answers of any run, and the state after it
 answers-through : {S : Type 0} (f : S → Event → Next S) (g : S → S) (Fits : S → Type 0) → ((s : S) (e : Event) → Fits s → f (g s) e ≡ next (g (f s e .state)) (f s e .answer)) → ((s : S) (e : Event) → Fits s → Fits (f s e .state))
     → (s : S) → Fits s → (events : List Event) → answersOf f (g s) events ≡ answersOf f s events
 answers-through f g Fits steps keeps s fits [] = refl
 answers-through f g Fits steps keeps s fits (e ∷ rest) =
     ap (λ (n : Next _). n .answer ∷ answersOf f (n .state) rest) (steps s e fits)
     ∙ ap (λ (others : List Answer). f s e .answer ∷ others) (answers-through f g Fits steps keeps (f s e .state) (keeps s e fits) rest)
+
+after-through : {S : Type 0} (f : S → Event → Next S) (g : S → S) (Fits : S → Type 0) → ((s : S) (e : Event) → Fits s → f (g s) e ≡ next (g (f s e .state)) (f s e .answer)) → ((s : S) (e : Event) → Fits s → Fits (f s e .state))
+    → (s : S) → Fits s → (events : List Event) → afterwards f (g s) events ≡ g (afterwards f s events)
+after-through f g Fits steps keeps s fits [] = refl
+after-through f g Fits steps keeps s fits (e ∷ rest) =
+    ap (λ (n : Next _). afterwards f (n .state) rest) (steps s e fits) ∙ after-through f g Fits steps keeps (f s e .state) (keeps s e fits) rest
 
 -- these settings have the list's members
 abbrev pub Lists : List ℕ → Settings → Type 0
@@ -115,9 +121,17 @@ lists-as l a b e same n = same n ∙ ap (λ (set : Settings). isIn n (set .vendo
 lists-on : (l : List ℕ) (d : Transport) (e : Event) → Lists l (d .settings) → Lists l (step d e .state .settings)
 lists-on l d e same = lists-as l _ _ (same-settings d (e .time) (e .disabled) (read (e .packet))) same
 
+step-alike : (l : List ℕ) (d : Transport) (e : Event) → Lists l (d .settings) → step (relisted l d) e ≡ relistedNext l (step d e)
+step-alike l d e h = hear-alike l d h (e .time) (e .disabled) (read (e .packet))
+
 pub run-alike : (set : Settings) (l : List ℕ) → Lists l set → (events : List Event) → run (fresh (listing l set)) events ≡ run (fresh set) events
 run-alike set l same events =
-    answers-through step (relisted l) (λ d. Lists l (d .settings)) (λ d e h. hear-alike l d h (e .time) (e .disabled) (read (e .packet))) (λ d e h. lists-on l d e h) (fresh set) same events
+    answers-through step (relisted l) (λ d. Lists l (d .settings)) (λ d e h. step-alike l d e h) (λ d e h. lists-on l d e h) (fresh set) same events
+
+pub run-receiver-alike : (set : Settings) (l : List ℕ) → Lists l set → (events : List Event) → afterwards step (fresh (listing l set)) events .receiver ≡ afterwards step (fresh set) events .receiver
+run-receiver-alike set l same events =
+    ap (λ (d : Transport). d .receiver)
+    (after-through step (relisted l) (λ d. Lists l (d .settings)) (λ d e h. step-alike l d e h) (λ d e h. lists-on l d e h) (fresh set) same events)
 
 pub after-alike : (set : Settings) (l : List ℕ) → Lists l set → (past : List Event) → after standard (listing l set) past ≡ relisted l (after standard set past)
 after-alike set l same [] = refl
@@ -133,16 +147,24 @@ answer-alike set l same past e =
     ap (λ (x : Transport). step x e .answer) (after-alike set l same past)
     ∙ ap (λ (n : Next Transport). n .answer) (hear-alike l d (lists-as l _ _ (settings-after set past) same) (e .time) (e .disabled) (read (e .packet)))
 
+-- ---- and the device
+device-stays : (o : Device) (e : Event) → deviceStep o e .state .transport ≡ step (o .transport) e .state
+device-stays o e = same-transport (e .time) (o .wink) (step (o .transport) e .state) (step (o .transport) e .answer)
+
+module _ (l : List ℕ) where
+  leads : (o : Device) (e : Event) → Lists l (o .transport .settings) → deviceStep (relistedDevice l o) e ≡ relistedLeads l (deviceStep o e)
+  leads o e h =
+      ap (λ (n : Next Transport). answered (e .time) (o .wink) (n .state) (n .answer)) (step-alike l (o .transport) e h)
+      ∙ answered-alike l (e .time) (o .wink) (step (o .transport) e .state) (step (o .transport) e .answer)
+
+  leads-on : (o : Device) (e : Event) → Lists l (o .transport .settings) → Lists l (deviceStep o e .state .transport .settings)
+  leads-on o e h = lists-as l _ _ (ap (λ (d : Transport). d .settings) (device-stays o e)) (lists-on l (o .transport) e h)
+
 pub only-members-count : OnlyMembersCount
 only-members-count set l same events =
-    answers-through deviceStep (relistedDevice l) (λ o. Lists l (o .transport .settings)) (λ o e h. leads o e h)
-    (λ o e h. lists-as l _ _ (ap (λ (d : Transport). d .settings) (stays o e)) (lists-on l (o .transport) e h))
-    (setUp set) same events
-  where
-    stays : (o : Device) (e : Event) → deviceStep o e .state .transport ≡ step (o .transport) e .state
-    stays o e = same-transport (e .time) (o .wink) (step (o .transport) e .state) (step (o .transport) e .answer)
+    answers-through deviceStep (relistedDevice l) (λ o. Lists l (o .transport .settings)) (λ o e h. leads l o e h) (λ o e h. leads-on l o e h) (setUp set) same events
 
-    leads : (o : Device) (e : Event) → Lists l (o .transport .settings) → deviceStep (relistedDevice l o) e ≡ relistedLeads l (deviceStep o e)
-    leads o e h =
-        ap (λ (n : Next Transport). answered (e .time) (o .wink) (n .state) (n .answer)) (hear-alike l (o .transport) h (e .time) (e .disabled) (read (e .packet)))
-        ∙ answered-alike l (e .time) (o .wink) (step (o .transport) e .state) (step (o .transport) e .answer)
+pub device-receiver-alike : (set : Settings) (l : List ℕ) → Lists l set → (events : List Event) → afterwards deviceStep (setUp (listing l set)) events .transport .receiver ≡ afterwards deviceStep (setUp set) events .transport .receiver
+device-receiver-alike set l same events =
+    ap (λ (o : Device). o .transport .receiver)
+    (after-through deviceStep (relistedDevice l) (λ o. Lists l (o .transport .settings)) (λ o e h. leads l o e h) (λ o e h. leads-on l o e h) (setUp set) same events)

@@ -11,9 +11,9 @@ use Rattle.ctaphid.specs.Packets.{Packet, continuation, read, written}
 use Rattle.ctaphid.specs.Messages.{continuations}
 use Rattle.ctaphid.specs.Limits.{timeout}
 use Rattle.ctaphid.specs.Receiver.{Transaction, idle, busy, Reception, whole, Turn, turn, channelOf, receive, stillDue}
-use Rattle.ctaphid.specs.Transport.{Settings, Transport, Event, Answer, nothing, Next, next, broadcast, isAllocated, isValid, isLockedAgainst, isShut, withReceiver, settle, settled, hear, step}
+use Rattle.ctaphid.specs.Transport.{Settings, Transport, Event, Answer, nothing, Next, next, broadcast, isAllocated, isValid, isLockedAgainst, isShut, withReceiver, settle, settled, hear, step, afterwards}
 use Rattle.ctaphid.specs.Demands.{standard, Proper, latest, after, on, Sent, Hushed, Ends, Message, numberOf, handedOut}
-use Rattle.ctaphid.specs.StillDue.{Fields, dueNext, completed, AllHushed, afterwards, DueIsOutstanding, DueStays}
+use Rattle.ctaphid.specs.StillDue.{Fields, dueNext, completed, AllHushed, DueIsOutstanding, DueStays}
 use Rattle.ctaphid.proofs.Tests.{pick-known, pick-both}
 use Rattle.ctaphid.proofs.Packets.{read-written}
 use Rattle.ctaphid.proofs.Transport.{hear-invalid}
@@ -148,7 +148,7 @@ hush-other c e h same = record { own = λ i. absurd (h i); other = λ i. same .h
 
 -- from a state on: all events are hushed, and then so many fewer are due than were
 abbrev Waits : (channel due fewer : ℕ) → List Event → Transport → Type 0
-Waits c due fewer events d = AllHushed d c events × (stillDue (afterwards d events .receiver) + fewer ≡ due)
+Waits c due fewer events d = AllHushed d c events × (stillDue (afterwards step d events .receiver) + fewer ≡ due)
 
 fewer : (events : List Event) (d : Transport) (t : Transaction) (now : ℕ) (fields : List (List ℕ)) → Midst d t now → Fields fields → Comes t now fields events
     → length fields < stillDue (busy t) → Waits (t .channel) (stillDue (busy t)) (length fields) events d
@@ -162,7 +162,7 @@ fewer (e ∷ events) d t now (field ∷ rest) k sizes w h =
     let more : 1 < stillDue (busy t) = omega arith in
     let is = due-step d t now k e (s .0) field (sizes .0) (o .0) more in
     let q = fewer events _ (grown t (e .time) field) (e .time) rest (is .midst) (sizes .1) (o .1) (omega (arith, is .one-less)) in
-    subst (λ (n : Next Transport). (Hushed (t .channel) e (n .answer) × AllHushed (n .state) (t .channel) events) × (stillDue (afterwards (n .state) events .receiver) + suc (length rest) ≡ stillDue (busy t)))
+    subst (λ (n : Next Transport). (Hushed (t .channel) e (n .answer) × AllHushed (n .state) (t .channel) events) × (stillDue (afterwards step (n .state) events .receiver) + suc (length rest) ≡ stillDue (busy t)))
     (sym (is .stepped)) ((hush-nothing (t .channel) e, q .0), omega (arith, q .1, is .one-less)))
     (λ (o : Another t (field ∷ rest) e events).
     let same : Same d (step d e) = others d t now k e (s .0) (o .0) (soon t (e .time) field rest events (o .1)) in

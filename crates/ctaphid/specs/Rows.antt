@@ -12,7 +12,7 @@ use Rattle.ctaphid.specs.Errors.{InvalidCmd, InvalidPar, InvalidLen, Inv
 use Rattle.ctaphid.specs.Capabilities.{wink, cbor, nmsg, bit, capabilities}
 use Rattle.ctaphid.specs.Limits.{packetSize, largest, shortReply, timeout, winkTime, lastTime}
 use Rattle.ctaphid.specs.Receiver.{Receiver, idle, isOn, stillDue}
-use Rattle.ctaphid.specs.Transport.{Settings, Lock, free, Transport, fresh, Event, Answer, nothing, reply, request, isValid, isLocked, isLockedBy, isLockedAgainst, withAllocated, withLock, withReceiver, step, run}
+use Rattle.ctaphid.specs.Transport.{Settings, Lock, free, Transport, fresh, Event, Answer, nothing, reply, request, isValid, isLocked, isLockedBy, isLockedAgainst, withAllocated, withLock, withReceiver, step, afterwards, run}
 use Rattle.ctaphid.specs.Refusals.{PacketSize, ShortBuffer, Unsound, Time, Maximum, Index, LongPayload, LongPing, Sequence, LongReply, NotInit, Command, Vendor, refusalNumber}
 use Rattle.ctaphid.specs.Device.{Device, device, setUp, deviceStep, deviceRun, isWinking}
 
@@ -69,8 +69,7 @@ abbrev pub answers : Device → List Event → List Shown
 answers o events = map shown (deviceRun o events)
 
 abbrev pub left : Device → List Event → Device
-left o [] = o
-left o (e ∷ rest) = left (deviceStep o e .state) rest
+left o events = afterwards deviceStep o events
 
 -- how many continuations are still due then, and after each event of a run
 abbrev pub due : Device → List Event → ℕ

@@ -7,7 +7,7 @@ use lib.ListN.{length, take}
 use Rattle.ctaphid.specs.Packets.{read, written}
 use Rattle.ctaphid.specs.Messages.{continuations}
 use Rattle.ctaphid.specs.Receiver.{Transaction, busy, channelOf, stillDue}
-use Rattle.ctaphid.specs.Transport.{Settings, Transport, Event, isAllocated, isValid, isLockedBy, isShut, step}
+use Rattle.ctaphid.specs.Transport.{Settings, Transport, Event, isAllocated, isValid, isLockedBy, isShut, step, afterwards}
 use Rattle.ctaphid.specs.Demands.{standard, Permitted, Taken, latest, after, on, Sent, Message, numberOf, handedOut, Allowed, Hushed, Ends}
 
 -- ---- right continuations
@@ -33,14 +33,10 @@ pub record Underway (d : Transport) (now : ℕ) (t : Transaction) : Type 0 where
   pub allocated : isAllocated (d .allocated) (t .channel) ≡ true
   pub unlocked : (o : ℕ) → (o ≡ t .channel → ⊥) → isLockedBy (d .lock) o now ≡ false
 
--- from a state on: each of these events is hushed, and the state after them
+-- from a state on, each of these events is hushed
 abbrev pub AllHushed : Transport → (channel : ℕ) → List Event → Type 0
 AllHushed d c [] = Unit {0}
 AllHushed d c (e ∷ rest) = Hushed c e (step d e .answer) × AllHushed (step d e .state) c rest
-
-abbrev pub afterwards : Transport → List Event → Transport
-afterwards d [] = d
-afterwards d (e ∷ rest) = afterwards (step d e .state) rest
 
 -- the events are right continuations of transaction t with these data fields, and any packets of other channels between them
 pub record Outstanding (set : Settings) (d : Transport) (t : Transaction) (fields : List (List ℕ)) (events : List Event) : Type 0 where
@@ -51,7 +47,7 @@ pub record Outstanding (set : Settings) (d : Transport) (t : Transaction) (field
       → Ends standard d (t .channel) (handedOut m (t .channel) (completed t fields)) events
   -- fewer: nothing is handed out, whatever the command, and so many fewer are due
   pub fewer : length fields < stillDue (busy t)
-      → AllHushed d (t .channel) events × (stillDue (afterwards d events .receiver) ≡ stillDue (busy t) - length fields)
+      → AllHushed d (t .channel) events × (stillDue (afterwards step d events .receiver) ≡ stillDue (busy t) - length fields)
 
 -- after any history without refusals
 abbrev pub DueIsOutstanding : Type 0

@@ -197,10 +197,14 @@ hear d time disabled p =
 abbrev pub step : Transport → Event → Next Transport
 step d e = hear d (e .time) (e .disabled) (read (e .packet))
 
--- the answers of a run of steps
+-- the answers of a run of steps, and the state after it
 abbrev pub answersOf : {S : Type 0} → (S → Event → Next S) → S → List Event → List Answer
 answersOf f s [] = []
 answersOf f s (e ∷ rest) = f s e .answer ∷ answersOf f (f s e .state) rest
+
+abbrev pub afterwards : {S : Type 0} → (S → Event → Next S) → S → List Event → S
+afterwards f s [] = s
+afterwards f s (e ∷ rest) = afterwards f (f s e .state) rest
 
 abbrev pub run : Transport → List Event → List Answer
 run d es = answersOf step d es

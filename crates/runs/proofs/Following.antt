@@ -9,12 +9,12 @@ use lib.Dec.{eqb}
 use lib.ListN.{take}
 use Rattle.ctaphid.specs.Choice.{pick}
 use Rattle.ctaphid.specs.Packets.{read}
-use Rattle.ctaphid.specs.Receiver.{Receiver, busy}
+use Rattle.ctaphid.specs.Receiver.{Receiver, busy, stillDue}
 use Rattle.ctaphid.specs.Transport.{Transport, Event, Answer, Next, withReceiver, step}
 use Rattle.ctaphid.specs.Device.{Device, answered as answeredAbove, above, deviceStep}
 use Rattle.ctaphid.proofs.Tests.{both-pick}
 use Rattle.ctaphid.proofs.Device.{Like, same-transport, by-settings}
-use Rattle.ctaphid.proofs.Forgetting.{forgetting, forgotten, forgotten-later, Alike, hears-alike}
+use Rattle.ctaphid.proofs.Forgetting.{forgetting, forgotten, forgotten-later, forgetting-due, Alike, hears-alike}
 use Rattle.receive.specs.Meaning.{transactionOf, receiverOf}
 use Rattle.answers.specs.Answers.{answered}
 use Rattle.hid.specs.declared.CtapHid.{CtapHid}
@@ -23,6 +23,7 @@ use Rattle.hid.specs.Meaning.{transportOf}
 use Rattle.hid.specs.Soundness.{Sound}
 use Rattle.hid.specs.Hearing.{Stepping}
 use Rattle.hid.specs.MainHid.{MainStepping}
+use Rattle.hid.proofs.Counting.{due-any}
 use Rattle.runs.specs.Steps.{Buffers, onEvent, mainOnEvent, saidBy, mainSaidBy, Comes}
 use Rattle.runs.specs.Lending.{Lends}
 use Rattle.runs.proofs.Refines.{step-refines, sound-stays, main-step-refines, main-sound-stays, leaves, main-last}
@@ -57,6 +58,12 @@ module _ (s : CtapHid) (time : ℕ) (left : List ℕ) (b : Buffers) (lends : Len
   same-meaning : Means time s (b .message) (transportOf s left)
   same-meaning = ap (withReceiver (transportOf s left)) same-receiver
 
+-- and tells the same number of packets still due, whatever was forgotten
+due-tells : (s : CtapHid) (wink time : ℕ) (m : List ℕ) (d : Transport) → Sound s wink → Means time s m d → s .«still_due» ≡ stillDue (d .receiver)
+due-tells s wink time m d sound means =
+    sound .due ∙ (sym (due-any (s .assembler) m)
+    ∙ (sym (forgetting-due time (receiverOf (s .assembler) m)) ∙ (ap (λ (x : Transport). stillDue (x .receiver)) means ∙ forgetting-due time (d .receiver))))
+
 -- so at the time of the call the standard's transport is meant
 lent-means : (s : CtapHid) (e : Event) (left : List ℕ) (b : Buffers) (d : Transport) → Means (s .last) s left d → Comes (s .last) e → Lends s (e .time) left b → Means (e .time) s (b .message) d
 lent-means s e left b d means comes lends =
@@ -66,6 +73,9 @@ lent-means s e left b d means comes lends =
 pub record Follows (s : CtapHid) (left : List ℕ) (d : Transport) : Type 0 where
   pub sound : Sound s 0
   pub means : Means (s .last) s left d
+
+pub due-follows : (s : CtapHid) (left : List ℕ) (d : Transport) → Follows s left d → s .«still_due» ≡ stillDue (d .receiver)
+due-follows s left d f = due-tells s 0 (s .last) left d (f .sound) (f .means)
 
 module _ (s : CtapHid) (left : List ℕ) (d : Transport) (e : Event) (b : Buffers) (f : Follows s left d) (comes : Comes (s .last) e) (lends : Lends s (e .time) left b) where
   abbrev x : Stepping
@@ -90,6 +100,9 @@ pub record MainFollows (o : MainHid) (left : List ℕ) (d : Device) : Type 0 whe
   pub sound : Sound (o .hid) (o .wink)
   pub means : Means (o .hid .last) (o .hid) left (d .transport)
   pub wink : o .wink ≡ d .wink
+
+pub main-due-follows : (o : MainHid) (left : List ℕ) (d : Device) → MainFollows o left d → o .hid .«still_due» ≡ stillDue (d .transport .receiver)
+main-due-follows o left d f = due-tells (o .hid) (o .wink) (o .hid .last) left (d .transport) (f .sound) (f .means)
 
 module _ (o : MainHid) (left : List ℕ) (d : Device) (e : Event) (b : Buffers) (f : MainFollows o left d) (comes : Comes (o .hid .last) e) (lends : Lends (o .hid) (e .time) left b) where
   abbrev y : MainStepping

@@ -46,6 +46,7 @@ use Rattle.hid.specs.Refusals.{refusals}
 use Rattle.hid.specs.Transport.{admittedOf}
 use Rattle.hid.specs.MainHid.{MainStepping, mainStepping, mainHeardOf, mainStepOf}
 use Rattle.hid.proofs.Bits.{all-vendor-of, leaves-just-the-list}
+use Rattle.hid.proofs.Counting.{due-0, due-back}
 use Rattle.hid.proofs.Sound.{is-sound}
 use Rattle.hid.proofs.Heard.{holds-is}
 use Rattle.hid.proofs.Finishing.{replied-long}
@@ -213,6 +214,7 @@ module _ (s : CtapHid) (wink time : ℕ) (disabled : Bool) (p : Packet) (m : Lis
         wink = winks;
         holder = h .holder;
         transaction = subst (λ (x : Settings). (assemblerOf (n .receiver) .len ≡ 0 → ⊥) → receive.Sound (assemblerOf (n .receiver)) (x .maximum)) (same-settings d time disabled p) (k .1);
+        due = sym (due-back (n .settings .maximum) (n .allocated) time (n .receiver) (h .receiver));
         channel = k .2;
       }
 
@@ -304,6 +306,7 @@ set-up-sound set p =
       wink = omega arith;
       holder = λ l. absurd (omega arith);
       transaction = λ z. absurd (z refl);
+      due = due-0 (fromSettings set .assembler) refl;
       channel = λ z. absurd (z refl);
     }
 

@@ -3,8 +3,9 @@ use Prim.Native.Nat.{ℕ, _<_}
 use mathlib.Core.Path.{_≡_}
 use mathlib.Core.List.{List, [], _∷_, map}
 use lib.ListN.{take}
-use Rattle.ctaphid.specs.Transport.{Settings, Event, fresh, run}
-use Rattle.ctaphid.specs.Device.{setUp, deviceRun}
+use Rattle.ctaphid.specs.Receiver.{stillDue}
+use Rattle.ctaphid.specs.Transport.{Settings, Event, fresh, step, afterwards, run}
+use Rattle.ctaphid.specs.Device.{setUp, deviceStep, deviceRun}
 use Rattle.ctaphid.specs.Demands.{Permitted}
 use Rattle.answers.specs.Answers.{Said, answered}
 use Rattle.hid.specs.declared.CtapHid.{CtapHid}
@@ -48,6 +49,11 @@ Lent hid f s left [] = Unit {0}
 Lent hid f s left (c ∷ rest) =
     Comes (hid s .last) (c .event) × Lends (hid s) (c .event .time) left (c .lent) × Lent hid f (f s c .state) (f s c .left) rest
 
+-- the state after a run
+abbrev pub stateAfter : {S : Type 0} → (S → Call → Done S) → S → List Call → S
+stateAfter f s [] = s
+stateAfter f s (c ∷ rest) = stateAfter f (f s c .state) rest
+
 -- ---- the transport, and the device
 
 abbrev pub done : Stepping → Done CtapHid
@@ -72,3 +78,14 @@ abbrev pub MainRunsAlike : Type 0
 MainRunsAlike =
     (set : Settings) (cs : List Call) → Permitted set → Lent (λ o. o .hid) mainOnCall (mainFromSettings set) [] cs
     → runOf mainOnCall (mainFromSettings set) cs ≡ map answered (deviceRun (setUp set) (map (λ c. c .event) cs))
+
+-- What the light reads: in the state after any such run, set-up's and each between two calls among them, the number of continuation packets still due is the standard's
+abbrev pub DueAlike : Type 0
+DueAlike =
+    (set : Settings) (cs : List Call) → Permitted set → Lent (λ s. s) onCall (fromSettings set) [] cs
+    → stateAfter onCall (fromSettings set) cs .«still_due» ≡ stillDue (afterwards step (fresh set) (map (λ c. c .event) cs) .receiver)
+
+abbrev pub MainDueAlike : Type 0
+MainDueAlike =
+    (set : Settings) (cs : List Call) → Permitted set → Lent (λ o. o .hid) mainOnCall (mainFromSettings set) [] cs
+    → stateAfter mainOnCall (mainFromSettings set) cs .hid .«still_due» ≡ stillDue (afterwards deviceStep (setUp set) (map (λ c. c .event) cs) .transport .receiver)
