@@ -1,18 +1,14 @@
--- How many continuations are still due: the number by the assembler's numbers, and how the code comes by it. Assumes nothing.
-use Prim.Native.Nat.{ℕ, _+_, _-_, _*_, _/_, _≤_, _<_}
+-- How many continuations are still due: the standard's number, and how the code comes by it. Assumes nothing.
+use Prim.Native.Nat.{ℕ, _+_, _-_, _/_, _≤_}
 use native.Mathlib.Omega.{arith}
 use native.Mathlib.Decide.{ℕ-discrete}
 use mathlib.Core.Path.{_≡_, refl, sym, _∙_}
 use mathlib.Core.List.{List, []}
-use mathlib.Core.Bool.{Bool, true, false}
-use borrow.Author.Tests.{eq-eqb, ne-eqb, lt-ltb, le-ltb}
-use lib.Dec.{eqb, ltb}
-use lib.ListN.{length}
+use borrow.Author.Tests.{eq-eqb, ne-eqb}
 use Rattle.ctaphid.specs.Choice.{pick}
 use Rattle.ctaphid.specs.Messages.{count}
 use Rattle.ctaphid.specs.Receiver.{Receiver, idle, busy, stillDue}
 use Rattle.ctaphid.proofs.Invariant.{Receives}
-use Rattle.collect.specs.Standing.{Stands}
 use Rattle.receive.specs.declared.MessageAssembler.{MessageAssembler}
 use Rattle.receive.specs.Meaning.{receiverOf, assemblerOf}
 use Rattle.hid.specs.Due.{dueBy, Counts}
@@ -50,37 +46,13 @@ module _ (a : MessageAssembler) where
   pub due-0 : a .len ≡ 0 → 0 ≡ dueBy a
   due-0 z = sym (due-none a [] z)
 
-  pub is-due-0 : (number : ℕ) → a .len ≡ 0 → eqb number 0 ≡ eqb number (dueBy a)
-  is-due-0 number z = simp (due-none a [] z)
-
   module _ (counts : Counts a) (z : a .len ≡ 0 → ⊥) where
-    stands : Stands 7609 (a .len) (a .taken) (a .seq)
-    stands = counts z
+    pub due-taken : a .taken ≤ a .len
+    due-taken = omega (arith, counts z .below, counts z .bytes)
 
     pub due-within : a .len ≤ 7609
-    due-within = stands .within
+    due-within = counts z .within
 
-    pub due-taken : a .taken ≤ 7609
-    due-taken = omega (arith, stands .within, stands .below, stands .bytes)
-
-    -- by the formula
-    pub due-formula : (a .len + 1) / 59 - a .seq ≡ dueBy a
-    due-formula = omega (arith, due-some a [] z)
-
-    pub due-low : a .seq ≤ (a .len + 1) / 59
-    due-low = omega (arith, stands .below)
-
-    -- by what so many hold
-    pub due-fewer : (number : ℕ) → a .taken + 59 * number < a .len → false ≡ eqb number (dueBy a)
-    due-fewer number h = sym (ne-eqb number (dueBy a) (λ e. omega (arith, e, due-some a [] z, stands .below, stands .bytes)))
-
-    pub due-held : (number : ℕ) → a .len ≤ a .taken + 59 * number → ltb (a .taken + 59 * number - a .len) 59 ≡ eqb number (dueBy a)
-    due-held number h = by-number (ℕ-discrete number (dueBy a))
-      where
-        by-number : Dec (number ≡ dueBy a) → ltb (a .taken + 59 * number - a .len) 59 ≡ eqb number (dueBy a)
-        by-number (yes e) =
-            let less : a .taken + 59 * number - a .len < 59 = omega (arith, e, due-some a [] z, stands .below, stands .bytes) in
-            lt-ltb _ _ less ∙ sym (eq-eqb number (dueBy a) e)
-        by-number (no e) =
-            let more : 59 ≤ a .taken + 59 * number - a .len = omega (arith, e, due-some a [] z, stands .below, stands .bytes) in
-            le-ltb _ _ more ∙ sym (ne-eqb number (dueBy a) e)
+    -- as many as hold what is missing
+    pub due-missing : (a .len - a .taken + 58) / 59 ≡ dueBy a
+    due-missing = omega (arith, counts z .below, counts z .bytes, due-some a [] z)

@@ -38,12 +38,13 @@ assembled-counts a max e t most z =
     let stands = receive-sound-is a max z (sym e ∙ t) .lengths in
     record { long = stands .long; within = omega (arith, stands .within); below = stands .below; bytes = stands .bytes }
 
-module _ (number : ℕ) (a : MessageAssembler) (b : Bool) (e : b ≡ eqb number (dueBy a)) where
-  pub due-yes : b ≡ true → eqb number (dueBy a) ≡ true
-  due-yes t = sym e ∙ t
+-- and the number was held against it
+module _ (number : ℕ) (a : MessageAssembler) {right : ℕ} (e : right ≡ dueBy a) where
+  pub due-yes : number ≡ right → eqb number (dueBy a) ≡ true
+  due-yes same = eq-eqb number (dueBy a) (same ∙ e)
 
-  pub due-no : b ≡ false → eqb number (dueBy a) ≡ false
-  due-no t = sym e ∙ t
+  pub due-no : (number ≡ right → ⊥) → eqb number (dueBy a) ≡ false
+  due-no other = ne-eqb number (dueBy a) (λ same. other (same ∙ sym e))
 
 module _ (s : CtapHid) (wink : ℕ) (b : Bool) (e : b ≡ isTimely s wink) where
   pub timely-yes : b ≡ true → isTimely s wink ≡ true

@@ -1,7 +1,7 @@
 // Whether a state makes sense: the list of docs/RULES.md, in its order.
 use crate::CtapHid;
 use crate::MessageAssembler;
-use crate::due::is_still_due;
+use crate::due::still_due;
 use channels::is_allocated;
 use packet::CtapHidCommand;
 use packet::Limits;
@@ -63,7 +63,7 @@ fn transacts(hid: CtapHid) -> bool
 {
     let assembler = hid.assembler;
     if assembler.is_sound(hid.max) {
-        if is_still_due(hid.still_due, assembler) {
+        if hid.still_due == still_due(assembler) {
             return is_placed(hid.allocated, assembler);
         }
     }

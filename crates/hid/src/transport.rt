@@ -29,7 +29,9 @@ impl CtapHid {
                 return no_message(next);
             }
         }
-        admit(self, 0, time, disabled, packet, message, reply)
+        // a local of its own keeps the short way's result out of memory: docs/SPEED.md
+        let stepped = admit(self, 0, time, disabled, packet, message, reply);
+        stepped
     }
 
     // The step over a lent state, which is left as it came where the call is refused.

@@ -1,12 +1,17 @@
 -- `still_due` meets its contract. Assumes nothing.
 use native.Mathlib.Omega.{arith}
-use Rattle.hid.proofs.Counting.{due-0, due-within, due-formula, due-low}
+use Rattle.hid.proofs.Counting.{due-0, due-taken, due-within, due-missing}
 use borrow.Author.Needs.{needs}
 use Rattle.hid.proofs.due.still_due.Statement.{statement}
 use Rattle.hid.proofs.due.still_due.Tie as tie
 
 returns : tie.Need-returns
 returns c = search due-0
+
+sub-result : tie.Need-sub-result
+sub-result c =
+    let start = c .before .before .before in
+    due-taken (start .args .a) (start .pre) (c .before .if1 .left)
 
 add-result : tie.Need-add-result
 add-result c =
@@ -18,15 +23,10 @@ cast-result c =
     let start = c .before .before .before in
     omega (arith, due-within (start .args .a) (start .pre) (c .before .if1 .left))
 
-sub-result : tie.Need-sub-result
-sub-result c =
-    let start = c .before .before .before .before in
-    due-low (start .args .a) (start .pre) (c .before .before .if1 .left)
-
 returns-2 : tie.Need-returns-2
 returns-2 c =
-    let start = c .before .before .before .before in
-    due-formula (start .args .a) (start .pre) (c .before .before .if1 .left)
+    let start = c .before .before .before in
+    due-missing (start .args .a) (start .pre) (c .before .if1 .left)
 
 pub still-due-spec : {M : Type 1} → statement M
-still-due-spec = tie.close (tie.spec returns add-result cast-result sub-result returns-2)
+still-due-spec = tie.close (tie.spec returns sub-result add-result cast-result returns-2)

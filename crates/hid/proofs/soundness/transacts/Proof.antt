@@ -9,8 +9,8 @@ use Rattle.hid.proofs.soundness.transacts.Tie as tie
 is-sound-requires : tie.Need-is-sound-requires
 is-sound-requires c κs = search needs
 
-is-still-due-requires : tie.Need-is-still-due-requires
-is-still-due-requires c κs = search assembled-counts
+still-due-requires : tie.Need-still-due-requires
+still-due-requires c κs = search assembled-counts
 
 is-placed-requires : tie.Need-is-placed-requires
 is-placed-requires c κs = search needs
@@ -32,7 +32,7 @@ transacts-spec =
     tie.close
     (tie.spec
     is-sound-requires
-    is-still-due-requires
+    still-due-requires
     is-placed-requires
     returns
     returns-2
