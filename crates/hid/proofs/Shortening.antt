@@ -34,7 +34,7 @@ use Rattle.hid.specs.Hearing.{Admits, Hears, stepping, heardOf}
 use Rattle.hid.specs.Refusals.{refusalOf}
 use Rattle.hid.specs.Transport.{admittedOf}
 use Rattle.hid.specs.Shortcut.{Open, Next, Due, TellsNext, TellsDue, GoesOn}
-use Rattle.hid.proofs.Counting.{due-some}
+use Rattle.hid.proofs.Counting.{due-some, due-0}
 use Rattle.hid.proofs.Heard.{same-valid, adds-of, parsed-is, serves, hears-served, hears-packet, heard-packet}
 use Rattle.hid.proofs.Refusing.{step-admitted, step-heard}
 
@@ -49,7 +49,7 @@ module _ (s : CtapHid) (time : ℕ) (disabled : Bool) (p : ProcessedPacket) {cid
     ap (isShut (record { holder = s .locked; until = s .lock }) time disabled) (sym own) ∙ (sym test ∙ off),
   )
 
-module _ (s : CtapHid) (time : ℕ) (disabled : Bool) (p : List ℕ) (more : s .assembler .taken + 59 < s .assembler .len)
+module _ (s : CtapHid) (time : ℕ) (disabled : Bool) (p : List ℕ) (more : 1 < s .«still_due»)
     (x : Reading) (e : said x (fieldOf (readingOf p)) ≡ readingOf p) {processed : ProcessedPacket} (is : x ≡ reading.Packet processed) where
   field-is : heard processed (fieldOf (readingOf p)) ≡ read p
   field-is = packet-read p (packet-size p x e is) x e (fieldOf (readingOf p)) is refl
@@ -87,17 +87,17 @@ module _ (s : CtapHid) (time : ℕ) (p m : List ℕ) (asks : Admits s time p m) 
   a = s .assembler
 
   begun : a .len ≡ 0 → ⊥
-  begun z = omega (arith, due .more)
+  begun z = omega (arith, due .more, asks .sound .due, due-0 a z)
 
   stands : Stands (s .max) (a .len) (a .taken) (a .seq)
   stands = asks .sound .transaction begun .lengths
 
-  -- its number is small, and something is due
+  -- its number is small, and with its data field not all is there
   pub number-low : a .seq ≤ 128
   number-low = omega (arith, stands .below, stands .within, asks .sound .maximum)
 
-  pub some-due : 1 ≤ s .«still_due»
-  some-due = omega (arith, stands .below, asks .sound .due, due-some a [] begun)
+  pub block-low : a .taken + 59 < a .len
+  block-low = omega (arith, stands .bytes, stands .below, due .more, asks .sound .due, due-some a [] begun)
 
   pub renewed-adds : Adds (renewed s time) m
   renewed-adds =
@@ -135,7 +135,7 @@ module _ (s : CtapHid) (time : ℕ) (p m : List ℕ) (asks : Admits s time p m) 
       unfolding assembledOf collect pick
       grown-is =
           let size : length (take (a .taken) m) ≡ a .taken = length-take-le (a .taken) m (omega (arith, renewed-adds .taken, renewed-adds .room)) in
-          let less : length (take (a .taken) m ++ field) < a .len = simp length-append (omega (arith, size, block, due .more)) in
+          let less : length (take (a .taken) m ++ field) < a .len = simp length-append (omega (arith, size, block, block-low)) in
           ap (λ (y : Assembling). y .assembled .assembler) e ∙ simp (lt-ltb _ _ less)
 
       one-less : s .«still_due» - 1 ≡ dueBy x

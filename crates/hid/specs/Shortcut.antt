@@ -25,7 +25,7 @@ pub record Next (s : CtapHid) (time : ℕ) (p : ProcessedPacket) : Type 0 where
 
 -- the same of a packet's bytes, and more is due after it
 pub record Due (s : CtapHid) (time : ℕ) (p : List ℕ) : Type 0 where
-  pub more : s .assembler .taken + 59 < s .assembler .len
+  pub more : 1 < s .«still_due»
   pub live : time < s .assembler .deadline
   pub own : continuation (s .assembler .cid) (s .assembler .seq) (fieldOf (readingOf p)) ≡ read p
   pub valid : isValid (s .allocated) (read p) ≡ true

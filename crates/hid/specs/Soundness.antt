@@ -40,8 +40,12 @@ isOnChannel allocated c cmd = pick (isAllocated allocated c) true (pick (eqb c 0
 unfoldable pub isPlaced : (allocated : ℕ) → MessageAssembler → Bool
 isPlaced allocated a = pick (eqb (a .len) 0) true (isOnChannel allocated (a .cid) (a .cmd))
 
+-- sound by itself, and so many packets are still due
+unfoldable pub isCounted : (maximum due : ℕ) → MessageAssembler → Bool
+isCounted max due a = every (receive.isSound a max ∷ eqb due (dueBy a) ∷ [])
+
 unfoldable pub transacts : CtapHid → Bool
-transacts s = every (receive.isSound (s .assembler) (s .max) ∷ eqb (s .«still_due») (dueBy (s .assembler)) ∷ isPlaced (s .allocated) (s .assembler) ∷ [])
+transacts s = every (isCounted (s .max) (s .«still_due») (s .assembler) ∷ isPlaced (s .allocated) (s .assembler) ∷ [])
 
 unfoldable pub isHeld : CtapHid → Bool
 isHeld s = pick (ltb (s .last) (s .lock)) (isAllocated (s .allocated) (s .locked)) true

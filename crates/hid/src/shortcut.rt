@@ -21,8 +21,7 @@ ghost use Rattle.hid.specs.Shortcut.{Due, TellsNext, TellsDue, GoesOn};
 pub(crate) fn is_due(hid: CtapHid, time: u64, disabled: bool, packet: &[u8]) -> bool
     ensures { λ r. ⌜ TellsDue r hid time disabled (now (packet .entry)) ⌝ }
 {
-    let a = hid.assembler;
-    if (a.taken as usize) + 59 >= a.len as usize {
+    if hid.still_due <= 1 {
         return false;
     }
     match packet::process_single_packet(packet) {

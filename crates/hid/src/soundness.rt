@@ -1,13 +1,12 @@
 // Whether a state makes sense: the list of docs/RULES.md, in its order.
 use crate::CtapHid;
 use crate::MessageAssembler;
-use crate::due::still_due;
 use channels::is_allocated;
 use packet::CtapHidCommand;
 use packet::Limits;
 ghost use mathlib.Core.Path.{_≡_};
 ghost use Prim.Native.Nat.{_≤_};
-ghost use Rattle.hid.specs.Soundness.{isSound, isTimely, isHeld, transacts, isPlaced, isOnChannel};
+ghost use Rattle.hid.specs.Soundness.{isSound, isTimely, isHeld, transacts, isCounted, isOnChannel};
 
 const LONGEST_LOCK_MS: u64 = 10000;
 
@@ -56,27 +55,38 @@ fn is_held(hid: CtapHid) -> bool
     true
 }
 
-// There is no transaction, or a sound one on a channel that may have it, and the number still due is right.
+// There is no transaction, and nothing is due; or a sound one on a channel that may have it.
 fn transacts(hid: CtapHid) -> bool
     requires { ⌜ hid .max ≤ 7609 ⌝ }
     ensures { λ r. ⌜ r ≡ transacts hid ⌝ }
 {
-    let assembler = hid.assembler;
-    if assembler.is_sound(hid.max) {
-        if hid.still_due == still_due(assembler) {
-            return is_placed(hid.allocated, assembler);
-        }
+    let a = hid.assembler;
+    if hid.still_due == 0 {
+        return a.len == 0;
+    }
+    if is_counted(hid.max, hid.still_due, a) {
+        return is_on_channel(hid.allocated, a.cid, a.cmd);
     }
     false
 }
 
-fn is_placed(allocated: u32, a: MessageAssembler) -> bool
-    ensures { λ r. ⌜ r ≡ isPlaced allocated a ⌝ }
+// A sound transaction of which so many packets are still due. Where there are any, and with those taken they are all of the declared length, more is declared
+// than taken: that isn't asked again.
+fn is_counted(max: u32, due: u16, a: MessageAssembler) -> bool
+    requires { ⌜ (max ≤ 7609) × (due ≡ 0 → ⊥) ⌝ }
+    ensures { λ r. ⌜ r ≡ isCounted max due a ⌝ }
 {
-    if a.len == 0 {
-        return true;
+    let taken = a.seq as u32;
+    if a.cmd > 127 {
+        return false;
     }
-    is_on_channel(allocated, a.cid, a.cmd)
+    if a.len > max {
+        return false;
+    }
+    if a.taken != 57 + 59 * taken {
+        return false;
+    }
+    (a.len + 1) / 59 == taken + due as u32
 }
 
 // An allocated channel, or INIT on the broadcast channel.

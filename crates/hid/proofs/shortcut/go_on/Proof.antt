@@ -1,6 +1,6 @@
 -- `go_on` meets its contract. Assumes nothing.
 use native.Mathlib.Omega.{arith}
-use Rattle.hid.proofs.Shortening.{number-low, renewed-adds, some-due, block, goes-on}
+use Rattle.hid.proofs.Shortening.{number-low, block-low, renewed-adds, block, goes-on}
 use borrow.Author.Needs.{needs}
 use Rattle.hid.proofs.shortcut.go_on.Statement.{statement}
 use Rattle.hid.proofs.shortcut.go_on.Tie as tie
@@ -24,14 +24,11 @@ append-block-requires c κs =
     let start = known .before in
     let a = start .args in (
       renewed-adds (a .hid) (a .time) (a .packet .now) (a .message .now) (start .pre .0) (start .pre .1),
-      (block (a .hid) (a .time) (a .packet .now) (a .message .now) (start .pre .0) (start .pre .1) (λ i. omega (arith, known .shared-slice-known .given i)) (at-data .packet-data .result .now) (at-data .packet-data .ensures .bytes), start .pre .1 .more),
+      (block (a .hid) (a .time) (a .packet .now) (a .message .now) (start .pre .0) (start .pre .1) (λ i. omega (arith, known .shared-slice-known .given i)) (at-data .packet-data .result .now) (at-data .packet-data .ensures .bytes), block-low (a .hid) (a .time) (a .packet .now) (a .message .now) (start .pre .0) (start .pre .1)),
     )
 
 sub-with-assembler : tie.Need-sub-with-assembler
-sub-with-assembler c =
-    let start = c .before .before .before .before .before .before .before .before .before .before in
-    let a = start .args in
-    some-due (a .hid) (a .time) (a .packet .now) (a .message .now) (start .pre .0) (start .pre .1)
+sub-with-assembler c = search needs
 
 with-assembler-requires : tie.Need-with-assembler-requires
 with-assembler-requires c κs = search needs

@@ -4,15 +4,6 @@ use borrow.Author.Needs.{needs}
 use Rattle.hid.proofs.shortcut.is_due.Statement.{statement}
 use Rattle.hid.proofs.shortcut.is_due.Tie as tie
 
-cast-if1 : tie.Need-cast-if1
-cast-if1 c = search needs
-
-add-if1 : tie.Need-add-if1
-add-if1 c = search needs
-
-cast-if1-2 : tie.Need-cast-if1-2
-cast-if1-2 c = search needs
-
 returns : tie.Need-returns
 returns c = search needs
 
@@ -38,9 +29,6 @@ pub is-due-spec : {M : Type 1} → statement M
 is-due-spec =
     tie.close
     (tie.spec
-    cast-if1
-    add-if1
-    cast-if1-2
     returns
     process-single-packet-requires
     enum-known-processed
