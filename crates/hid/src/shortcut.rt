@@ -2,7 +2,6 @@
 // (docs/SPEED.md says what it saves).
 use crate::CtapHid;
 use crate::MessageAssembler;
-use crate::state::with_assembler;
 use packet::Limits;
 use packet::ProcessedPacket;
 use packet::Reading;
@@ -68,7 +67,19 @@ pub(crate) fn go_on(hid: CtapHid, time: u64, packet: &[u8], message: &mut [u8]) 
     next.seq = next.seq + 1;
     let data = packet::packet_data(packet);
     let assembler = append_block(next, data, message);
-    with_assembler(hid, time, assembler, hid.still_due - 1)
+    // field by field, not copied and altered: docs/SPEED.md
+    CtapHid {
+        assembler,
+        lock: hid.lock,
+        last: time,
+        vendor: hid.vendor,
+        allocated: hid.allocated,
+        locked: hid.locked,
+        max: hid.max,
+        u2f: hid.u2f,
+        spare: hid.spare,
+        still_due: hid.still_due - 1,
+    }
 }
 
 // The data is 59 bytes, and more is declared.

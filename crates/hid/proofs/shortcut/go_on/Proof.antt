@@ -1,5 +1,6 @@
 -- `go_on` meets its contract. Assumes nothing.
 use native.Mathlib.Omega.{arith}
+use mathlib.Core.Path.{refl}
 use Rattle.hid.proofs.Shortening.{number-low, block-low, renewed-adds, block, goes-on}
 use borrow.Author.Needs.{needs}
 use Rattle.hid.proofs.shortcut.go_on.Statement.{statement}
@@ -27,23 +28,20 @@ append-block-requires c κs =
       (block (a .hid) (a .time) (a .packet .now) (a .message .now) (start .pre .0) (start .pre .1) (λ i. omega (arith, known .shared-slice-known .given i)) (at-data .packet-data .result .now) (at-data .packet-data .ensures .bytes), block-low (a .hid) (a .time) (a .packet .now) (a .message .now) (start .pre .0) (start .pre .1)),
     )
 
-sub-with-assembler : tie.Need-sub-with-assembler
-sub-with-assembler c = search needs
-
-with-assembler-requires : tie.Need-with-assembler-requires
-with-assembler-requires c κs = search needs
+sub-t10 : tie.Need-sub-t10
+sub-t10 c = search needs
 
 same-length : tie.Need-same-length
 same-length c = search needs
 
 returns : tie.Need-returns
 returns c =
-    let at-append = c .before .before .before .before in
+    let at-append = c .before .before .before in
     let at-data = at-append .before .before in
     let known = at-data .before .before .before .before in
     let start = known .before in
     let a = start .args in
-    goes-on (a .hid) (a .time) (a .packet .now) (a .message .now) (start .pre .0) (start .pre .1) (λ i. omega (arith, known .shared-slice-known .given i)) (at-data .packet-data .result .now) (at-data .packet-data .ensures .bytes) _ _ (at-append .append-block .ensures) _ (c .with-assembler .ensures)
+    goes-on (a .hid) (a .time) (a .packet .now) (a .message .now) (start .pre .0) (start .pre .1) (λ i. omega (arith, known .shared-slice-known .given i)) (at-data .packet-data .result .now) (at-data .packet-data .ensures .bytes) _ _ (at-append .append-block .ensures) _ refl
 
 pub go-on-spec : {M : Type 1} → statement M
 go-on-spec =
@@ -53,7 +51,6 @@ go-on-spec =
     add-next-2
     packet-data-requires
     append-block-requires
-    sub-with-assembler
-    with-assembler-requires
+    sub-t10
     same-length
     returns)
