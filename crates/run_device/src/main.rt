@@ -1,4 +1,4 @@
-// Runs of the device beside the rows of docs/RULES.md: a broadcast INIT that declares 60 bytes, a wink at its end, and vendor commands.
+// Runs of the device beside the rows of docs/RULES.md: a broadcast INIT that declares 60 bytes, a wink at its end, the packets still due, and vendor commands.
 // A line has the time, the packet's front and the answer: its payload where it has one.
 use hid::Answer;
 use hid::MainHid;
@@ -18,6 +18,10 @@ fn main() {
             blocked(hid);
             text(b"a wink runs for 5,000 ms\n");
             winked(hid);
+            text(
+                b"packets still due: one fewer with each that is taken; past the deadline as many until a packet gets to check 3\n",
+            );
+            counted(hid);
         }
         MainReady::Refused(_) => text(b"refused\n"),
     }
@@ -55,6 +59,34 @@ fn winked(fresh: MainHid) {
     asked(hid, 5000);
 }
 
+// CBOR of 177 bytes on channel 1, which takes 3 continuations. After one of them its time is over at 110; then another one is dropped by a wrong number.
+fn counted(fresh: MainHid) {
+    let mut hid = fresh;
+    hid = step(hid, 0, b"\xff\xff\xff\xff\x86\x00\x08");
+    hid = step(hid, 0, b"\xff\xff\xff\xff\x86\x00\x08");
+    due(hid);
+    hid = due(step(hid, 0, b"\x00\x00\x00\x01\x90\x00\xb1"));
+    hid = due(step(hid, 10, b"\x00\x00\x00\x01\x00"));
+    hid = due(step(hid, 20, b"\x00\x00\x00\x02\x81\x00\x00"));
+    hid = due(shut_step(hid, 110, b"\x00\x00\x00\x01\x01"));
+    asked(hid, 111);
+    locked(hid, 111);
+    hid = due(step(hid, 112, b"\x00\x00\x00\x03\x81\x00\x00"));
+    hid = due(step(hid, 113, b"\x00\x00\x00\x01\x01"));
+    hid = due(step(hid, 200, b"\x00\x00\x00\x02\x90\x00\x3a"));
+    hid = due(step(hid, 201, b"\x00\x00\x00\x02\x01"));
+    hid = due(step(hid, 202, b"\x00\x00\x00\x02\x90\x00\x3a"));
+    due(step(hid, 203, b"\x00\x00\x00\x02\x00"));
+}
+
+fn due(hid: MainHid) -> MainHid {
+    let transport = hid.hid;
+    text(b"still due: ");
+    io::print_decimal(STDOUT_FILENO, transport.still_due as u64);
+    text(b"\n");
+    hid
+}
+
 fn branded(fresh: MainHid) {
     let mut hid = fresh;
     hid = step(hid, 0, b"\xff\xff\xff\xff\x86\x00\x08");
@@ -68,8 +100,17 @@ fn branded(fresh: MainHid) {
     asked(hid, 5);
 }
 
-// A packet that begins so and whose other bytes are 0.
 fn step(hid: MainHid, time: u64, front: &[u8]) -> MainHid {
+    step_when(hid, time, false, front)
+}
+
+fn shut_step(hid: MainHid, time: u64, front: &[u8]) -> MainHid {
+    text(b"disabled, ");
+    step_when(hid, time, true, front)
+}
+
+// A packet that begins so and whose other bytes are 0.
+fn step_when(hid: MainHid, time: u64, disabled: bool, front: &[u8]) -> MainHid {
     let mut packet = [0u8; Limits::PACKET_SIZE];
     let mut message = [0u8; Limits::LARGEST_PAYLOAD];
     let mut reply = [0u8; Limits::SHORT_REPLY_SIZE];
@@ -77,7 +118,7 @@ fn step(hid: MainHid, time: u64, front: &[u8]) -> MainHid {
         return hid;
     }
     bytes::copy(front, &mut packet);
-    let stepped = hid.step(time, false, &packet, &mut message, &mut reply);
+    let stepped = hid.step(time, disabled, &packet, &mut message, &mut reply);
     let answer = stepped.answer;
     io::print_decimal(STDOUT_FILENO, time);
     text(b" ");
@@ -116,7 +157,18 @@ fn kind(name: &[u8], cid: u32, cmd: u8, len: usize) {
 fn asked(hid: MainHid, time: u64) {
     io::print_decimal(STDOUT_FILENO, time);
     text(b" a wink runs: ");
-    match hid.is_winking_at(time) {
+    say(hid.is_winking_at(time));
+}
+
+fn locked(hid: MainHid, time: u64) {
+    let transport = hid.hid;
+    io::print_decimal(STDOUT_FILENO, time);
+    text(b" a lock runs: ");
+    say(transport.is_locked_at(time));
+}
+
+fn say(running: Running) {
+    match running {
         Running::Yes => text(b"yes\n"),
         Running::No => text(b"no\n"),
         Running::Refused(number) => {

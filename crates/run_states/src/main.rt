@@ -29,6 +29,7 @@ fn main() {
     deadlines();
     holders();
     messages();
+    dues();
     channels();
     times();
     order();
@@ -63,11 +64,11 @@ fn base() -> CtapHid {
         max: 200,
         u2f: 1,
         spare: 0,
-        later: 0,
+        still_due: 0,
     }
 }
 
-// A PING on channel 2 whose first packet came at the last time.
+// A PING on channel 2 whose first packet came at the last time. 3 continuations are still due.
 fn transaction() -> MessageAssembler {
     MessageAssembler {
         deadline: LAST + 100,
@@ -101,16 +102,15 @@ fn limits() {
     trial(b"all vendor commands", hid);
     hid = base();
     hid.spare = 0xFF;
-    hid.later = 0xFFFF;
-    trial(b"any spare numbers", hid);
+    trial(b"any spare number", hid);
 }
 
 fn deadlines() {
     let mut assembler = transaction();
     assembler.deadline = LAST + 100;
-    trial_of(b"transaction deadline 100 past", assembler);
+    trial_of(b"transaction deadline 100 past", assembler, 3);
     assembler.deadline = LAST + 101;
-    trial_of(b"transaction deadline 101 past", assembler);
+    trial_of(b"transaction deadline 101 past", assembler, 3);
     let mut hid = base();
     hid.locked = 1;
     hid.lock = LAST + 10000;
@@ -154,52 +154,75 @@ fn holders() {
 fn messages() {
     let mut assembler = transaction();
     assembler.cmd = 127;
-    trial_of(b"command 127", assembler);
+    trial_of(b"command 127", assembler, 3);
     assembler.cmd = 128;
-    trial_of(b"command 128", assembler);
+    trial_of(b"command 128", assembler, 3);
     assembler = transaction();
     assembler.len = 58;
-    trial_of(b"declared length 58", assembler);
+    trial_of(b"declared length 58", assembler, 1);
     assembler.len = 57;
-    trial_of(b"declared length 57", assembler);
+    trial_of(b"declared length 57", assembler, 0);
     assembler.len = 200;
-    trial_of(b"declared length 200 of 200", assembler);
+    trial_of(b"declared length 200 of 200", assembler, 3);
     assembler.len = 201;
-    trial_of(b"declared length 201 of 200", assembler);
+    trial_of(b"declared length 201 of 200", assembler, 3);
     assembler.seq = 1;
     assembler.taken = 116;
     assembler.len = 117;
-    trial_of(b"number 1, 116 taken of 117", assembler);
+    trial_of(b"number 1, 116 taken of 117", assembler, 1);
     assembler.len = 116;
-    trial_of(b"number 1, 116 taken of 116", assembler);
+    trial_of(b"number 1, 116 taken of 116", assembler, 0);
     assembler.len = 200;
-    trial_of(b"number 1, 116 taken", assembler);
+    trial_of(b"number 1, 116 taken", assembler, 2);
     assembler.taken = 115;
-    trial_of(b"number 1, 115 taken", assembler);
+    trial_of(b"number 1, 115 taken", assembler, 2);
     assembler.taken = 117;
-    trial_of(b"number 1, 117 taken", assembler);
+    trial_of(b"number 1, 117 taken", assembler, 2);
+}
+
+// 200 bytes are declared: 57 come first, and 59, 59 and 25 follow.
+fn dues() {
+    let mut assembler = transaction();
+    trial_of(b"57 taken of 200, 3 due", assembler, 3);
+    trial_of(b"57 taken of 200, 4 due", assembler, 4);
+    trial_of(b"57 taken of 200, 2 due", assembler, 2);
+    trial_of(b"57 taken of 200, none due", assembler, 0);
+    assembler.seq = 2;
+    assembler.taken = 175;
+    trial_of(b"175 taken of 200, 1 due", assembler, 1);
+    trial_of(b"175 taken of 200, 2 due", assembler, 2);
+    trial_of(b"175 taken of 200, none due", assembler, 0);
+    assembler.deadline = LAST;
+    trial_of(b"time over, 1 due", assembler, 1);
+    trial_of(b"time over, 2 due", assembler, 2);
+    trial_of(b"time over, none due", assembler, 0);
+    let mut hid = base();
+    hid.still_due = 1;
+    trial(b"no transaction, 1 due", hid);
+    hid.still_due = 0xFFFF;
+    trial(b"no transaction, 65,535 due", hid);
 }
 
 fn channels() {
     let mut assembler = transaction();
     assembler.cid = 2;
-    trial_of(b"transaction on 2 of 2", assembler);
+    trial_of(b"transaction on 2 of 2", assembler, 3);
     assembler.cid = 3;
-    trial_of(b"transaction on 3 of 2", assembler);
+    trial_of(b"transaction on 3 of 2", assembler, 3);
     assembler.cid = 1;
-    trial_of(b"transaction on 1", assembler);
+    trial_of(b"transaction on 1", assembler, 3);
     assembler.cid = 0;
-    trial_of(b"transaction on 0", assembler);
+    trial_of(b"transaction on 0", assembler, 3);
     assembler.cid = 0xFFFF_FFFF;
     assembler.cmd = 6;
-    trial_of(b"INIT on FFFFFFFF", assembler);
+    trial_of(b"INIT on FFFFFFFF", assembler, 3);
     assembler.cmd = 1;
-    trial_of(b"PING on FFFFFFFF", assembler);
+    trial_of(b"PING on FFFFFFFF", assembler, 3);
     assembler.cmd = 127;
-    trial_of(b"command 127 on FFFFFFFF", assembler);
+    trial_of(b"command 127 on FFFFFFFF", assembler, 3);
     assembler.cid = 3;
     assembler.cmd = 6;
-    trial_of(b"INIT on 3 of 2", assembler);
+    trial_of(b"INIT on 3 of 2", assembler, 3);
 }
 
 fn times() {
@@ -285,9 +308,11 @@ fn echo(len: usize) {
     text(b"\n");
 }
 
-fn trial_of(name: &[u8], assembler: MessageAssembler) {
+// A transaction, and how many continuations are said to be still due.
+fn trial_of(name: &[u8], assembler: MessageAssembler, due: u16) {
     let mut hid = base();
     hid.assembler = assembler;
+    hid.still_due = due;
     trial(name, hid);
 }
 
@@ -389,7 +414,7 @@ fn same(a: CtapHid, b: CtapHid) -> bool {
         && a.u2f == b.u2f
         && a.vendor == b.vendor
         && a.spare == b.spare
-        && a.later == b.later
+        && a.still_due == b.still_due
 }
 
 fn same_assembler(a: MessageAssembler, b: MessageAssembler) -> bool {
