@@ -48,18 +48,18 @@
  */
 #if defined(__x86_64__) && !defined(__ILP32__) && !defined(_WIN32) && !defined(__CYGWIN__)
 #define SNJOFRASK_ENTRY __attribute__((sysv_abi))
-#define SNJOFRASK_STACK_SIZE 549
+#define SNJOFRASK_STACK_SIZE 493
 #elif defined(__ARM_EABI__) && defined(__thumb2__) && !defined(__ARM_BIG_ENDIAN) && __ARM_ARCH_PROFILE == 'M' && \
     (__ARM_ARCH >= 8 || defined(__ARM_FEATURE_DSP))
 #define SNJOFRASK_ENTRY __attribute__((pcs("aapcs")))
-#define SNJOFRASK_STACK_SIZE 544
+#define SNJOFRASK_STACK_SIZE 576
 #elif defined(__riscv) && __riscv_xlen == 32 && !defined(__riscv_32e) && defined(__riscv_mul) && defined(__riscv_compressed) && \
     defined(__riscv_float_abi_soft)
 #define SNJOFRASK_ENTRY
-#define SNJOFRASK_STACK_SIZE 608
+#define SNJOFRASK_STACK_SIZE 544
 #elif defined(__aarch64__) && defined(__LP64__) && !defined(__AARCH64EB__) && !defined(__APPLE__)
 #define SNJOFRASK_ENTRY
-#define SNJOFRASK_STACK_SIZE 464
+#define SNJOFRASK_STACK_SIZE 528
 #else
 #error "there is no libsnjofrask.a for this processor and calling convention: firmware/README.md says for which there is"
 #endif

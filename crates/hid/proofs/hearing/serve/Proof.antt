@@ -17,7 +17,13 @@ channel-requires : tie.Need-channel-requires
 channel-requires c κs = search needs
 
 settle-requires : tie.Need-settle-requires
-settle-requires c κs = search serves-of
+settle-requires c κs =
+    let at-with = c .before .before .before in
+    let at-due = at-with .before in
+    let at-parse = at-due .before .before .before in
+    let start = at-parse .before .before .before .before .before .before in
+    let a = start .args in
+    serves-of (a .hid) (a .time) (a .packet) (a .«data» .now) (a .message .now) (a .reply .now) _ _ (start .pre .0 .0) (start .pre .0 .1) (start .pre .1) (at-parse .parse-packet .ensures) (at-due .still-due .ensures) _ (at-with .with-assembler .ensures)
 
 same-length : tie.Need-same-length
 same-length c = search needs

@@ -7,7 +7,7 @@ use Rattle.hid.proofs.soundness.transacts.Statement.{statement}
 use Rattle.hid.proofs.soundness.transacts.Tie as tie
 
 returns : tie.Need-returns
-returns c = search transacts-none
+returns c = transacts-none (c .before .before .before .before .args .hid) (c .before .if1 .taken)
 
 is-counted-requires : tie.Need-is-counted-requires
 is-counted-requires c κs = search needs
