@@ -10,9 +10,9 @@ use lib.ListN.{length, take, length-append}
 use Rattle.ctaphid.specs.Packets.{Packet, continuation, read, written}
 use Rattle.ctaphid.specs.Messages.{continuations}
 use Rattle.ctaphid.specs.Limits.{timeout}
-use Rattle.ctaphid.specs.Receiver.{Transaction, idle, busy, Reception, whole, Turn, turn, channelOf, receive, stillDue}
+use Rattle.ctaphid.specs.Receiver.{Transaction, idle, busy, Reception, whole, Turn, channelOf, receive, stillDue}
 use Rattle.ctaphid.specs.Transport.{Settings, Transport, Event, Answer, nothing, Next, next, broadcast, isAllocated, isValid, isLockedAgainst, isShut, withReceiver, settle, settled, hear, step, afterwards}
-use Rattle.ctaphid.specs.Demands.{standard, Proper, latest, after, on, Sent, Hushed, Ends, Message, numberOf, handedOut}
+use Rattle.ctaphid.specs.Demands.{standard, latest, after, on, Sent, Hushed, Ends, Message, numberOf, handedOut}
 use Rattle.ctaphid.specs.StillDue.{Fields, dueNext, completed, AllHushed, DueIsOutstanding, DueStays}
 use Rattle.ctaphid.proofs.Tests.{pick-known, pick-both}
 use Rattle.ctaphid.proofs.Packets.{read-written}
@@ -92,9 +92,6 @@ record Goes (d : Transport) (t : Transaction) (e : Event) (field : List ℕ) : T
   midst : Midst (withReceiver d (busy (grown t (e .time) field))) (grown t (e .time) field) (e .time)
 
 module _ (d : Transport) (t : Transaction) (now : ℕ) (k : Midst d t now) (e : Event) (onward : now ≤ e .time) where
-  pub due-some : 0 < stillDue (busy t)
-  due-some = omega (arith, k .bytes, k .below)
-
   module _ (field : List ℕ) (size : length field ≡ 59) (o : IsDue t field e) where
     abbrev p : Packet
     p = continuation (t .channel) (t .due) field

@@ -1,7 +1,6 @@
 -- `still_due` meets its contract. Assumes nothing.
 use native.Mathlib.Omega.{arith}
 use Rattle.hid.proofs.Counting.{due-0, due-taken, due-within, due-missing}
-use borrow.Author.Needs.{needs}
 use Rattle.hid.proofs.due.still_due.Statement.{statement}
 use Rattle.hid.proofs.due.still_due.Tie as tie
 
