@@ -76,17 +76,17 @@ fn is_counted(max: u32, due: u16, a: MessageAssembler) -> bool
     requires { ⌜ (max ≤ 7609) × (due ≡ 0 → ⊥) ⌝ }
     ensures { λ r. ⌜ r ≡ isCounted max due a ⌝ }
 {
-    let taken = a.seq as u32;
+    let seq = a.seq as u32;
     if a.cmd > 127 {
         return false;
     }
     if a.len > max {
         return false;
     }
-    if a.taken != 57 + 59 * taken {
+    if a.taken != 57 + 59 * seq {
         return false;
     }
-    (a.len + 1) / 59 == taken + due as u32
+    (a.len + 1) / 59 == seq + due as u32
 }
 
 // An allocated channel, or INIT on the broadcast channel.

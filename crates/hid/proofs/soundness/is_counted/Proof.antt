@@ -4,8 +4,8 @@ use borrow.Author.Needs.{needs}
 use Rattle.hid.proofs.soundness.is_counted.Statement.{statement}
 use Rattle.hid.proofs.soundness.is_counted.Tie as tie
 
-cast-taken : tie.Need-cast-taken
-cast-taken c = search needs
+cast-seq : tie.Need-cast-seq
+cast-seq c = search needs
 
 returns : tie.Need-returns
 returns c = search counted
@@ -32,4 +32,4 @@ returns-4 : tie.Need-returns-4
 returns-4 c = search counted
 
 pub is-counted-spec : {M : Type 1} → statement M
-is-counted-spec = tie.close (tie.spec cast-taken returns returns-2 mul-if3 add-if3 returns-3 add-result add-result-2 returns-4)
+is-counted-spec = tie.close (tie.spec cast-seq returns returns-2 mul-if3 add-if3 returns-3 add-result add-result-2 returns-4)
