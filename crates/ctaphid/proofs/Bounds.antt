@@ -14,8 +14,9 @@ use Rattle.ctaphid.specs.Choice.{pick}
 use Rattle.ctaphid.specs.Packets.{Packet, initialization, continuation, read}
 use Rattle.ctaphid.specs.Commands.{Command, MSG, CBOR, INIT, PING, CANCEL, ERROR, KEEPALIVE, WINK, LOCK, number, commandOf, VENDOR}
 use Rattle.ctaphid.specs.Errors.{Error, InvalidCmd, InvalidPar, InvalidLen, ChannelBusy, code}
+use Rattle.ctaphid.specs.Settings.{Settings, knows}
 use Rattle.ctaphid.specs.Receiver.{Transaction, Receiver, idle, busy, Reception, silent, fault, whole, Turn, channelOf, collect, start, whenIdle, whenOver, onOwn, whenBusy, receive, isOn}
-use Rattle.ctaphid.specs.Transport.{Settings, Lock, Transport, Event, Answer, nothing, reply, request, Next, error, notValid, isLocked, isLockedBy, onInit, lockFor, onLock, dispatch, settle, hear, withReceiver, knows, obey}
+use Rattle.ctaphid.specs.Transport.{Lock, Transport, Event, Answer, nothing, reply, request, Next, error, notValid, isLocked, isLockedBy, onInit, lockFor, onLock, dispatch, settle, hear, withReceiver, obey}
 use Rattle.ctaphid.specs.Demands.{standard, Taken, latest, after, answer, Begun, Since, TransactionsEndWithin, TransactionsEnd, Locked, LocksEnd}
 use Rattle.ctaphid.proofs.Tests.{pick-true, pick-both, pick-known}
 use Rattle.ctaphid.proofs.Invariant.{Runs, Receives, Holds, holds-later, reads-lock, keeps-dispatch}

@@ -3,7 +3,8 @@ use Prim.Native.Nat.{ℕ}
 use mathlib.Core.Path.{sym, subst, _∙_}
 use mathlib.Core.List.{List, [], _∷_}
 use mathlib.Core.Logic.{⊎-elim}
-use Rattle.ctaphid.specs.Transport.{Settings, Event, Answer}
+use Rattle.ctaphid.specs.Settings.{Settings}
+use Rattle.ctaphid.specs.Transport.{Event, Answer}
 use Rattle.ctaphid.specs.Demands.{AnyDevice, standard, Permitted, Taken, after, Sent, Hushed, Ends, Delivery, Agrees}
 use Rattle.ctaphid.proofs.Deliver.{delivery}
 

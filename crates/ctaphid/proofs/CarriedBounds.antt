@@ -3,7 +3,8 @@ use Prim.Native.Nat.{ℕ}
 use mathlib.Core.Path.{sym, _∙_}
 use mathlib.Core.List.{List, [], _∷_}
 use mathlib.Core.Logic.{inl, inr, ⊎-elim}
-use Rattle.ctaphid.specs.Transport.{Settings, Event}
+use Rattle.ctaphid.specs.Settings.{Settings}
+use Rattle.ctaphid.specs.Transport.{Event}
 use Rattle.ctaphid.specs.Demands.{AnyDevice, standard, Permitted, Taken, on, Begun, Since, TransactionsEndWithin, TransactionsEnd, Locked, Holding, LocksEnd, Against, Honest, HeldBy, NoneShutOut, Agrees, AnswersAlike}
 use Rattle.ctaphid.proofs.Bounds.{transactions-end-sharp, transactions-end, locks-end}
 use Rattle.ctaphid.proofs.Shut.{honest, none-shut-out}

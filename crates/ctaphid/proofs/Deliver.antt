@@ -13,8 +13,9 @@ use Rattle.ctaphid.specs.Choice.{pick}
 use Rattle.ctaphid.specs.Packets.{Packet, initialization, read, written}
 use Rattle.ctaphid.specs.Messages.{later, chunks, padded, fields, packets, wire}
 use Rattle.ctaphid.specs.Limits.{timeout}
+use Rattle.ctaphid.specs.Settings.{Settings}
 use Rattle.ctaphid.specs.Receiver.{Transaction, idle, busy, silent, whole, Turn, turn, collect, start, isOn, stillDue}
-use Rattle.ctaphid.specs.Transport.{Settings, Transport, Event, nothing, Next, next, broadcast, isAllocated, isLockedAgainst, withReceiver, settle, settled, step}
+use Rattle.ctaphid.specs.Transport.{Transport, Event, nothing, Next, next, broadcast, isAllocated, isLockedAgainst, withReceiver, settle, settled, step}
 use Rattle.ctaphid.specs.Demands.{standard, latest, after, Sent, Ends, Message, aPing, aMsg, aWink, aCbor, aVendor, numberOf, handedOut, Delivery}
 use Rattle.ctaphid.specs.StillDue.{Fields, dueNext, completed}
 use Rattle.ctaphid.proofs.Splitting.{padded-full, later-length, fields-flatten}

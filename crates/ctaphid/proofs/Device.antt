@@ -7,7 +7,8 @@ use lib.ListN.{length}
 use Rattle.ctaphid.specs.Choice.{pick}
 use Rattle.ctaphid.specs.Commands.{MSG, number}
 use Rattle.ctaphid.specs.Errors.{InvalidCmd}
-use Rattle.ctaphid.specs.Transport.{Settings, Transport, Answer, nothing, reply, request, Next, next, error}
+use Rattle.ctaphid.specs.Settings.{Settings}
+use Rattle.ctaphid.specs.Transport.{Transport, Answer, nothing, reply, request, Next, next, error}
 use Rattle.ctaphid.specs.Device.{Device, device, onWink, onMsg, onRequest, answered}
 use Rattle.ctaphid.proofs.Tests.{pick-both, both-pick}
 

@@ -9,8 +9,9 @@ use lib.ListN.{getD, drop}
 use lib.Seq.{getD-drop}
 use Rattle.ctaphid.specs.Choice.{isIn}
 use Rattle.ctaphid.specs.Packets.{Packet, initialization, continuation, byte, channelIn, declaredIn, read}
+use Rattle.ctaphid.specs.Settings.{Settings}
 use Rattle.ctaphid.specs.Receiver.{channelOf}
-use Rattle.ctaphid.specs.Transport.{Settings, Event}
+use Rattle.ctaphid.specs.Transport.{Event}
 use Rattle.ctaphid.specs.Demands.{standard, Permitted, Taken, latest, after, on, First, AsksLock}
 use Rattle.ctaphid.proofs.Tests.{pick-both}
 use Rattle.ctaphid.proofs.Packets.{read-first, read-later, read-formed}

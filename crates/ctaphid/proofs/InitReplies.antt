@@ -10,7 +10,8 @@ use Rattle.ctaphid.specs.Choice.{pick}
 use Rattle.ctaphid.specs.Capabilities.{capabilities}
 use Rattle.ctaphid.specs.Limits.{largest}
 use Rattle.ctaphid.specs.Packets.{byte, channelIn, four}
-use Rattle.ctaphid.specs.Transport.{Settings, initReply}
+use Rattle.ctaphid.specs.Settings.{Settings}
+use Rattle.ctaphid.specs.Transport.{initReply}
 use Rattle.ctaphid.specs.Host.{InitHeard, notInit, initFields, initFieldsOf, initOf, ReadsInit}
 use Rattle.ctaphid.proofs.Tests.{pick-known}
 use Rattle.ctaphid.proofs.Packets.{four-is}

@@ -12,8 +12,9 @@ use Rattle.ctaphid.specs.Choice.{pick, isIn}
 use Rattle.ctaphid.specs.Packets.{channelIn, declaredIn, read, written}
 use Rattle.ctaphid.specs.Messages.{later, chunks, padded, fields, continuations, packets}
 use Rattle.ctaphid.specs.Commands.{PING, CBOR, VENDOR, isVendor, among}
+use Rattle.ctaphid.specs.Settings.{Settings, knows}
 use Rattle.ctaphid.specs.Receiver.{collect, start, whenIdle, whenOver, onOwn, whenBusy, receive, isOn}
-use Rattle.ctaphid.specs.Transport.{Settings, Event, reply, request, isAllocated, isValid, isLockedBy, isLockedAgainst, isShut, nextChannel, onInit, dispatch, settle, hear, knows, obey}
+use Rattle.ctaphid.specs.Transport.{Event, reply, request, isAllocated, isValid, isLockedBy, isLockedAgainst, isShut, nextChannel, onInit, dispatch, settle, hear, obey}
 use Rattle.ctaphid.specs.Demands.{AnyDevice, standard, Permitted, Proper, Taken, after, answer, busyOn, Open, Sending, Ends, aPing, aCbor, aVendor, Delivery}
 use Rattle.ctaphid.proofs.Tests.{pick-true, pick-known}
 use Rattle.ctaphid.proofs.Histories.{none-permitted}

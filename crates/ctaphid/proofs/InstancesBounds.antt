@@ -10,8 +10,9 @@ use lib.ListN.{length, replicate}
 use Rattle.ctaphid.specs.Choice.{pick}
 use Rattle.ctaphid.specs.Packets.{Bytes, channelIn, declaredIn, read}
 use Rattle.ctaphid.specs.Commands.{PING, among, isVendor}
+use Rattle.ctaphid.specs.Settings.{Settings, knows}
 use Rattle.ctaphid.specs.Receiver.{collect, start, whenIdle, whenOver, whenBusy, receive, isOn}
-use Rattle.ctaphid.specs.Transport.{Settings, Event, reply, isAllocated, isValid, isLockedBy, isLockedAgainst, isShut, nextChannel, onInit, lockFor, onLock, dispatch, settle, hear, knows, obey}
+use Rattle.ctaphid.specs.Transport.{Event, reply, isAllocated, isValid, isLockedBy, isLockedAgainst, isShut, nextChannel, onInit, lockFor, onLock, dispatch, settle, hear, obey}
 use Rattle.ctaphid.specs.Demands.{Permitted, standard, Proper, Taken, after, answer, Since, Holding, busyOn, HeldBy}
 use Rattle.ctaphid.proofs.Histories.{none-permitted}
 use Rattle.ctaphid.proofs.Tests.{pick-true}

@@ -12,8 +12,9 @@ use lib.Seq.{length-take-le}
 use Rattle.ctaphid.specs.Choice.{pick}
 use Rattle.ctaphid.specs.Packets.{Packet, initialization, continuation, Formed}
 use Rattle.ctaphid.specs.Commands.{Command, MSG, CBOR, INIT, PING, CANCEL, ERROR, KEEPALIVE, WINK, LOCK, number, among, commandOf, commands, isVendor, VENDOR}
+use Rattle.ctaphid.specs.Settings.{Settings, knows}
 use Rattle.ctaphid.specs.Receiver.{Transaction, Receiver, idle, busy, Reception, silent, fault, whole, Turn, channelOf, collect, start, whenIdle, whenOver, onOwn, whenBusy, receive}
-use Rattle.ctaphid.specs.Transport.{Settings, Lock, Transport, fresh, Next, broadcast, isAllocated, isValid, isLockedAgainst, isShut, nextChannel, onInit, lockFor, onLock, dispatch, settle, serve, hear, withReceiver, withAllocated, withLock, knows, obey}
+use Rattle.ctaphid.specs.Transport.{Lock, Transport, fresh, Next, broadcast, isAllocated, isValid, isLockedAgainst, isShut, nextChannel, onInit, lockFor, onLock, dispatch, settle, serve, hear, withReceiver, withAllocated, withLock, obey}
 use Rattle.ctaphid.proofs.Tests.{pick-true, pick-both, pick-known}
 
 -- a channel that is allocated, or the broadcast channel for INIT

@@ -9,8 +9,9 @@ use Rattle.ctaphid.specs.Choice.{pick, isIn}
 use Rattle.ctaphid.specs.Packets.{Packet, read}
 use Rattle.ctaphid.specs.Commands.{Command, MSG, CBOR, INIT, PING, CANCEL, ERROR, KEEPALIVE, WINK, LOCK, VENDOR, number, commandOf}
 use Rattle.ctaphid.specs.Errors.{InvalidCmd}
+use Rattle.ctaphid.specs.Settings.{Settings, listing, knows}
 use Rattle.ctaphid.specs.Receiver.{Reception, silent, fault, whole, Turn, channelOf, receive}
-use Rattle.ctaphid.specs.Transport.{Settings, listing, Transport, fresh, Event, Answer, nothing, reply, request, Next, next, error, broadcast, isValid, isShut, knows, obey, dispatch, onInit, onLock, withReceiver, settle, hear, step, answersOf, afterwards, run}
+use Rattle.ctaphid.specs.Transport.{Transport, fresh, Event, Answer, nothing, reply, request, Next, next, error, broadcast, isValid, isShut, obey, dispatch, onInit, onLock, withReceiver, settle, hear, step, answersOf, afterwards, run}
 use Rattle.ctaphid.specs.Device.{Device, device, setUp, onWink, onMsg, onRequest, answered, deviceStep, OnlyMembersCount}
 use Rattle.ctaphid.specs.Demands.{standard, after, answer}
 use Rattle.ctaphid.proofs.Tests.{both-pick}

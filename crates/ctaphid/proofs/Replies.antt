@@ -7,8 +7,9 @@ use lib.Dec.{ltb, eqb}
 use lib.ListN.{length, getD}
 use Rattle.ctaphid.specs.Packets.{Packet, initialization, continuation, read}
 use Rattle.ctaphid.specs.Commands.{Command, MSG, CBOR, INIT, PING, CANCEL, ERROR, KEEPALIVE, WINK, LOCK, VENDOR, number, commandOf}
+use Rattle.ctaphid.specs.Settings.{knows}
 use Rattle.ctaphid.specs.Receiver.{Reception, silent, fault, whole, Turn, channelOf, receive}
-use Rattle.ctaphid.specs.Transport.{Transport, Event, Answer, nothing, reply, request, Next, broadcast, isValid, notValid, isShut, onInit, onLock, knows, obey, dispatch, settle, withReceiver, hear, step}
+use Rattle.ctaphid.specs.Transport.{Transport, Event, Answer, nothing, reply, request, Next, broadcast, isValid, notValid, isShut, onInit, onLock, obey, dispatch, settle, withReceiver, hear, step}
 use Rattle.ctaphid.specs.Device.{Device, onWink, onMsg, onRequest, answered, deviceStep}
 use Rattle.ctaphid.proofs.Tests.{pick-both}
 

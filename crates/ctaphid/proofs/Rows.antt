@@ -9,8 +9,9 @@ use Rattle.ctaphid.specs.Choice.{pick, isIn}
 use Rattle.ctaphid.specs.Packets.{byte, channelIn, declaredIn, read, written, Bytes}
 use Rattle.ctaphid.specs.Messages.{later, chunks, padded, fields, continuations, packets, splitWire}
 use Rattle.ctaphid.specs.Commands.{among, isVendor}
+use Rattle.ctaphid.specs.Settings.{knows}
 use Rattle.ctaphid.specs.Receiver.{collect, start, whenIdle, whenOver, onOwn, whenBusy, receive, isOn}
-use Rattle.ctaphid.specs.Transport.{isAllocated, isValid, isLockedBy, isLockedAgainst, isShut, nextChannel, onInit, lockFor, onLock, dispatch, settle, hear, knows, obey}
+use Rattle.ctaphid.specs.Transport.{isAllocated, isValid, isLockedBy, isLockedAgainst, isShut, nextChannel, onInit, lockFor, onLock, dispatch, settle, hear, obey}
 use Rattle.ctaphid.specs.Device.{onWink, onMsg, onRequest, answered}
 use Rattle.ctaphid.specs.Rows.{Rows, FurtherRows}
 use Rattle.ctaphid.proofs.Messages.{wire-length, wire-later}

@@ -13,8 +13,9 @@ use lib.Seq.{take-all}
 use Rattle.ctaphid.specs.Choice.{pick}
 use Rattle.ctaphid.specs.Packets.{Packet, continuation, channelIn, declaredIn, read}
 use Rattle.ctaphid.specs.Commands.{PING, among, isVendor}
+use Rattle.ctaphid.specs.Settings.{knows}
 use Rattle.ctaphid.specs.Receiver.{Transaction, idle, busy, silent, whole, Turn, turn, collect, start, whenIdle, receive, isOn}
-use Rattle.ctaphid.specs.Transport.{Transport, free, Event, nothing, reply, Next, isAllocated, isValid, isLockedAgainst, isShut, nextChannel, onInit, dispatch, settle, serve, hear, step, knows, obey}
+use Rattle.ctaphid.specs.Transport.{Transport, free, Event, nothing, reply, Next, isAllocated, isValid, isLockedAgainst, isShut, nextChannel, onInit, dispatch, settle, serve, hear, step, obey}
 use Rattle.ctaphid.specs.Demands.{standard, Taken, latest, after, answer, Begun, Since, TransactionsEndWithin}
 use Rattle.ctaphid.proofs.Steps.{grown, receive-more, receive-last, let-through, served}
 use Rattle.ctaphid.proofs.InstancesBounds.{at, allBytes, proper, channel, settings, permitted, two, two-taken}

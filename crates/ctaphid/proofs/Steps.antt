@@ -12,8 +12,9 @@ use Rattle.ctaphid.specs.Packets.{Packet, initialization, continuation}
 use Rattle.ctaphid.specs.Commands.{Command, VENDOR, number, isVendor, among, commandOf}
 use Rattle.ctaphid.specs.Errors.{Error, ChannelBusy, InvalidChannel}
 use Rattle.ctaphid.specs.Limits.{timeout}
+use Rattle.ctaphid.specs.Settings.{Settings, knows}
 use Rattle.ctaphid.specs.Receiver.{Transaction, Receiver, idle, busy, silent, fault, whole, Turn, turn, channelOf, collect, start, whenIdle, whenOver, onOwn, whenBusy, receive, isOn}
-use Rattle.ctaphid.specs.Transport.{Lock, Transport, Next, next, error, broadcast, isAllocated, isValid, notValid, isLocked, isLockedBy, isLockedAgainst, isShut, withReceiver, dispatch, settle, settled, serve, hear, knows, obey, Settings, request}
+use Rattle.ctaphid.specs.Transport.{Lock, Transport, Next, next, error, broadcast, isAllocated, isValid, notValid, isLocked, isLockedBy, isLockedAgainst, isShut, withReceiver, dispatch, settle, settled, serve, hear, obey, request}
 use Rattle.ctaphid.specs.Demands.{Message, aPing, aMsg, aWink, aCbor, numberOf, handedOut, HandsOut, Allowed, Permitted, aVendor}
 use Rattle.ctaphid.proofs.Commands.{is-vendor, vendor-read}
 use Rattle.ctaphid.proofs.Tests.{pick-true, pick-both, pick-known}

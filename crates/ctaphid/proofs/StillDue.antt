@@ -10,8 +10,9 @@ use lib.ListN.{length, take, length-append}
 use Rattle.ctaphid.specs.Packets.{Packet, continuation, read, written}
 use Rattle.ctaphid.specs.Messages.{continuations}
 use Rattle.ctaphid.specs.Limits.{timeout}
+use Rattle.ctaphid.specs.Settings.{Settings}
 use Rattle.ctaphid.specs.Receiver.{Transaction, idle, busy, Reception, whole, Turn, channelOf, receive, stillDue}
-use Rattle.ctaphid.specs.Transport.{Settings, Transport, Event, Answer, nothing, Next, next, broadcast, isAllocated, isValid, isLockedAgainst, isShut, withReceiver, settle, settled, hear, step, afterwards}
+use Rattle.ctaphid.specs.Transport.{Transport, Event, Answer, nothing, Next, next, broadcast, isAllocated, isValid, isLockedAgainst, isShut, withReceiver, settle, settled, hear, step, afterwards}
 use Rattle.ctaphid.specs.Demands.{standard, latest, after, on, Sent, Hushed, Ends, Message, numberOf, handedOut}
 use Rattle.ctaphid.specs.StillDue.{Fields, dueNext, completed, AllHushed, DueIsOutstanding, DueStays}
 use Rattle.ctaphid.proofs.Tests.{pick-known, pick-both}

@@ -10,8 +10,9 @@ use lib.ListN.{replicate}
 use Rattle.ctaphid.specs.Choice.{pick}
 use Rattle.ctaphid.specs.Packets.{channelIn, declaredIn, read}
 use Rattle.ctaphid.specs.Commands.{among, LOCK, isVendor}
+use Rattle.ctaphid.specs.Settings.{Settings, knows}
 use Rattle.ctaphid.specs.Receiver.{busy, collect, start, whenIdle, whenBusy, receive, isOn}
-use Rattle.ctaphid.specs.Transport.{Settings, Transport, free, Event, nothing, reply, Next, next, isAllocated, isValid, isLockedBy, isLockedAgainst, isShut, nextChannel, onInit, lockFor, onLock, dispatch, settle, hear, knows, obey}
+use Rattle.ctaphid.specs.Transport.{Transport, free, Event, nothing, reply, Next, next, isAllocated, isValid, isLockedBy, isLockedAgainst, isShut, nextChannel, onInit, lockFor, onLock, dispatch, settle, hear, obey}
 use Rattle.ctaphid.specs.Demands.{AnyDevice, Taken, latest, after, answer, Begun, Since, TransactionsEnd, Locked, Holding, LocksEnd, busyOn, HeldBy, NoneShutOut}
 use Rattle.ctaphid.specs.WrongBounds.{foreverLocked, lockedTooLong, anyPacketIsLife}
 use Rattle.ctaphid.proofs.InstancesBounds.{at, allBytes, proper, ping, begin, lock, settings, permitted, two, begun, begun-taken, locked, locked-taken}

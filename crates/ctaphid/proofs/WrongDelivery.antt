@@ -8,8 +8,9 @@ use lib.ListN.{getD, drop, replicate}
 use Rattle.ctaphid.specs.Choice.{pick, isIn}
 use Rattle.ctaphid.specs.Packets.{Packet, continuation, byte, channelIn, declaredIn, read}
 use Rattle.ctaphid.specs.Commands.{CBOR, VENDOR, number, isVendor, among}
+use Rattle.ctaphid.specs.Settings.{knows}
 use Rattle.ctaphid.specs.Receiver.{collect, start, whenIdle, whenOver, onOwn, whenBusy, receive}
-use Rattle.ctaphid.specs.Transport.{Event, Answer, nothing, reply, request, isAllocated, isValid, isLockedAgainst, isShut, nextChannel, onInit, dispatch, settle, hear, knows, obey}
+use Rattle.ctaphid.specs.Transport.{Event, Answer, nothing, reply, request, isAllocated, isValid, isLockedAgainst, isShut, nextChannel, onInit, dispatch, settle, hear, obey}
 use Rattle.ctaphid.specs.Demands.{AnyDevice, First, after, answer, Ends, Delivery}
 use Rattle.ctaphid.specs.Wrong.{Refusing, busyAlways, Frozen, forgetful, Nodding, eagerly, eager, NoddingAtVendor, hushed, eagerlyAtVendor, eagerAtVendor}
 use Rattle.ctaphid.proofs.Tests.{pick-known}

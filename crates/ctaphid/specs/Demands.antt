@@ -9,8 +9,9 @@ use Rattle.ctaphid.specs.Choice.{isIn}
 use Rattle.ctaphid.specs.Packets.{byte, Bytes}
 use Rattle.ctaphid.specs.Messages.{wire}
 use Rattle.ctaphid.specs.Commands.{MSG, CBOR, PING, ERROR, WINK, LOCK, VENDOR}
+use Rattle.ctaphid.specs.Settings.{Settings}
 use Rattle.ctaphid.specs.Receiver.{isOn}
-use Rattle.ctaphid.specs.Transport.{Settings, Transport, Event, Answer, nothing, reply, request, Next, fresh, isAllocated, isLockedBy, step}
+use Rattle.ctaphid.specs.Transport.{Transport, Event, Answer, nothing, reply, request, Next, fresh, isAllocated, isLockedBy, step}
 
 -- a device: its states, set-up, what a packet does, and two questions: whether a transaction of a channel is on at a time, and whether its lock runs
 pub record AnyDevice : Type 1 where

@@ -10,7 +10,8 @@ use Rattle.ctaphid.specs.Choice.{pick, isIn}
 use Rattle.ctaphid.specs.Commands.{Command, MSG, WINK, is}
 use Rattle.ctaphid.specs.Errors.{InvalidCmd, InvalidLen}
 use Rattle.ctaphid.specs.Limits.{winkTime}
-use Rattle.ctaphid.specs.Transport.{Settings, listing, Transport, Event, Answer, nothing, reply, request, Next, next, error, fresh, step, answersOf}
+use Rattle.ctaphid.specs.Settings.{Settings, listing}
+use Rattle.ctaphid.specs.Transport.{Transport, Event, Answer, nothing, reply, request, Next, next, error, fresh, step, answersOf}
 
 -- the transport, and the time from which on no wink runs
 pub record Device : Type 0 where

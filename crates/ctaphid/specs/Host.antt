@@ -12,8 +12,9 @@ use Rattle.ctaphid.specs.Limits.{largest}
 use Rattle.ctaphid.specs.Packets.{Packet, initialization, continuation, byte, channelIn, read}
 use Rattle.ctaphid.specs.Messages.{wire}
 use Rattle.ctaphid.specs.Capabilities.{capabilities}
+use Rattle.ctaphid.specs.Settings.{Settings}
 use Rattle.ctaphid.specs.Receiver.{channelOf, putTogether}
-use Rattle.ctaphid.specs.Transport.{Settings, initReply}
+use Rattle.ctaphid.specs.Transport.{initReply}
 
 -- a reply that is begun: what its initialization packet said, the bytes collected so far, and the sequence number that is due
 pub record Begun : Type 0 where

@@ -5,6 +5,7 @@ pub mod Commands
 pub mod Messages
 pub mod Errors
 pub mod Capabilities
+pub mod Settings
 pub mod Receiver
 pub mod Transport
 pub mod Device

@@ -6,8 +6,9 @@ use mathlib.Core.Bool.{true, false}
 use lib.ListN.{length, take}
 use Rattle.ctaphid.specs.Packets.{read, written}
 use Rattle.ctaphid.specs.Messages.{continuations}
+use Rattle.ctaphid.specs.Settings.{Settings}
 use Rattle.ctaphid.specs.Receiver.{Transaction, busy, channelOf, stillDue}
-use Rattle.ctaphid.specs.Transport.{Settings, Transport, Event, isAllocated, isValid, isLockedBy, isShut, step, afterwards}
+use Rattle.ctaphid.specs.Transport.{Transport, Event, isAllocated, isValid, isLockedBy, isShut, step, afterwards}
 use Rattle.ctaphid.specs.Demands.{standard, Permitted, Taken, latest, after, on, Sent, Message, numberOf, handedOut, Allowed, Hushed, Ends}
 
 -- ---- right continuations

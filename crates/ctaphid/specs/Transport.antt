@@ -4,22 +4,13 @@ use mathlib.Core.List.{List, [], _∷_, _++_}
 use mathlib.Core.Bool.{Bool, true, false, not}
 use lib.ListN.{length, getD}
 use lib.Dec.{ltb, leb, eqb}
-use Rattle.ctaphid.specs.Choice.{pick, isIn}
+use Rattle.ctaphid.specs.Choice.{pick}
 use Rattle.ctaphid.specs.Packets.{Packet, initialization, continuation, read, four}
 use Rattle.ctaphid.specs.Commands.{Command, MSG, CBOR, INIT, PING, CANCEL, ERROR, KEEPALIVE, WINK, LOCK, VENDOR, number, commandOf}
 use Rattle.ctaphid.specs.Errors.{Error, InvalidCmd, InvalidPar, InvalidLen, ChannelBusy, InvalidChannel, code}
 use Rattle.ctaphid.specs.Capabilities.{capabilities}
+use Rattle.ctaphid.specs.Settings.{Settings, knows}
 use Rattle.ctaphid.specs.Receiver.{Receiver, idle, Reception, silent, fault, whole, Turn, channelOf, receive}
-
--- the largest message that is taken, whether the device has U2F, and the numbers of the vendor commands that it allows
-pub record Settings : Type 0 where
-  pub maximum : ℕ
-  pub u2f : Bool
-  pub vendor : List ℕ
-
--- the same with another list
-abbrev pub listing : List ℕ → Settings → Settings
-listing l set = record { maximum = set .maximum; u2f = set .u2f; vendor = l }
 
 -- §11.2.6: the channel that has locked the device, and the time from which on it no longer has
 pub record Lock : Type 0 where
@@ -136,20 +127,6 @@ onLock d time c payload =
     (next d (error c InvalidPar))
     (next (withLock d (lockFor time c (getD payload 0 0))) (reply c LOCK [])))
     (next d (error c InvalidLen))
-
--- the commands that a device knows, by its settings: of the vendor's (§11.2.9.3) those on its list, and of the others all but KEEPALIVE and ERROR, which are
--- no requests, nor is what reads as ERROR (DIFFERENCES 1 and 21)
-unfoldable pub knows : Settings → Command → Bool
-knows set MSG = true
-knows set CBOR = true
-knows set INIT = true
-knows set PING = true
-knows set CANCEL = true
-knows set ERROR = false
-knows set KEEPALIVE = false
-knows set WINK = true
-knows set LOCK = true
-knows set (VENDOR n) = isIn n (set .vendor)
 
 -- what it does with one that it knows, which ERROR and KEEPALIVE never are. §11.2.9.1: PING is answered with the same data, CANCEL never (DIFFERENCES 19). MSG,
 -- CBOR and WINK are handed out, of any length (DIFFERENCES 20), and so are the vendor's, whose data is not the standard's

@@ -10,8 +10,9 @@ use lib.ListN.{length, length-append, length-drop}
 use Rattle.ctaphid.specs.Choice.{pick}
 use Rattle.ctaphid.specs.Commands.{Command, ERROR, number}
 use Rattle.ctaphid.specs.Packets.{read}
+use Rattle.ctaphid.specs.Settings.{Settings}
 use Rattle.ctaphid.specs.Transport as standard
-use Rattle.ctaphid.specs.Transport.{Settings, Transport, nothing, reply, request, hear}
+use Rattle.ctaphid.specs.Transport.{Transport, nothing, reply, request, hear}
 use Rattle.ctaphid.specs.Device.{onWink, onMsg, onRequest, answered}
 use Rattle.ctaphid.proofs.Refusing.{refused-by, none-refuse}
 use Rattle.ctaphid.proofs.Device.{same-transport}

@@ -1,4 +1,3 @@
-pub mod Bits
 pub mod SettingUp
 pub mod Counting
 pub mod Sound

@@ -7,14 +7,14 @@ use mathlib.Core.Bool.{Bool, true, false, not}
 use borrow.Author.Tests.{lt-ltb, le-ltb}
 use lib.Dec.{ltb}
 use Rattle.ctaphid.specs.Choice.{pick}
+use Rattle.settings.specs.declared.vendor.Listed.{Listed}
+use Rattle.settings.specs.declared.vendor.Listed.the-variants.{Bits, Foreign}
+use Rattle.settings.specs.Vendor.{allVendor, bitsOf, listedOf}
 use Rattle.hid.specs.declared.CtapHid.{CtapHid}
 use Rattle.hid.specs.declared.Ready.{Ready}
 use Rattle.hid.specs.declared.Ready.the-variants as transport
 use Rattle.hid.specs.declared.MainReady.{MainReady}
 use Rattle.hid.specs.declared.MainReady.the-variants as device
-use Rattle.hid.specs.declared.vendor.Listed.{Listed}
-use Rattle.hid.specs.declared.vendor.Listed.the-variants.{Bits, Foreign}
-use Rattle.hid.specs.Vendor.{allVendor, bitsOf, listedOf}
 use Rattle.hid.specs.SetUp.{freshWith, freshHid, freshMain, newOf, mainNewOf}
 
 -- ---- a transport

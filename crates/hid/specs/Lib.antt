@@ -1,4 +1,3 @@
-pub mod Vendor
 pub mod Due
 pub mod Meaning
 pub mod Soundness

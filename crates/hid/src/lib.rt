@@ -11,7 +11,6 @@ mod shortcut;
 mod soundness;
 mod state;
 mod transport;
-mod vendor;
 
 pub use answers::Answer;
 pub use answers::echo;

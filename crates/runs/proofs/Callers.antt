@@ -9,7 +9,8 @@ use borrow.Author.Tests.{eq-eqb, ne-eqb, lt-ltb, le-ltb}
 use lib.ListN.{length, take, replicate, length-append, length-replicate}
 use lib.Seq.{length-take-le, take-at}
 use Rattle.ctaphid.specs.Choice.{pick}
-use Rattle.ctaphid.specs.Transport.{Settings, Event}
+use Rattle.ctaphid.specs.Settings.{Settings}
+use Rattle.ctaphid.specs.Transport.{Event}
 use Rattle.ctaphid.specs.Demands.{Permitted, Taken, after}
 use Rattle.hid.specs.declared.CtapHid.{CtapHid}
 use Rattle.hid.specs.Soundness.{Sound}

@@ -8,8 +8,9 @@ use lib.ListN.{getD, replicate}
 use Rattle.ctaphid.specs.Choice.{pick}
 use Rattle.ctaphid.specs.Packets.{channelIn, declaredIn, read}
 use Rattle.ctaphid.specs.Commands.{CBOR, isVendor, among}
+use Rattle.ctaphid.specs.Settings.{Settings, knows}
 use Rattle.ctaphid.specs.Receiver.{collect, start, whenIdle, whenOver, onOwn, whenBusy, receive}
-use Rattle.ctaphid.specs.Transport.{Settings, Event, Answer, request, isAllocated, isValid, isLockedAgainst, isShut, nextChannel, onInit, knows, obey, dispatch, settle, hear}
+use Rattle.ctaphid.specs.Transport.{Event, Answer, request, isAllocated, isValid, isLockedAgainst, isShut, nextChannel, onInit, obey, dispatch, settle, hear}
 use Rattle.ctaphid.specs.Demands.{Taken, answer}
 use Rattle.ctaphid.proofs.Histories.{none-permitted}
 use Rattle.ctaphid.proofs.Instances.{allBelow, at, proper, init, message, begins, ends}

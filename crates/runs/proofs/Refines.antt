@@ -12,9 +12,10 @@ use Rattle.ctaphid.specs.Choice.{pick}
 use Rattle.ctaphid.specs.Limits.{lastTime, packetSize}
 use Rattle.ctaphid.specs.Commands.{Command, MSG, CBOR, INIT, PING, CANCEL, ERROR, KEEPALIVE, WINK, LOCK, VENDOR, number, commandOf}
 use Rattle.ctaphid.specs.Packets.{Packet, initialization, continuation, read, Formed}
+use Rattle.ctaphid.specs.Settings.{Settings, listing, knows}
 use Rattle.ctaphid.specs.Receiver.{Receiver, idle, busy, Reception, silent, fault, whole, Turn, channelOf, receive}
 use Rattle.ctaphid.specs.Transport as standard
-use Rattle.ctaphid.specs.Transport.{Settings, listing, Transport, Event, Next, nothing, reply, request, isValid, notValid, isShut, onInit, onLock, knows, obey, dispatch, settle, withReceiver, serve, hear, step, fresh}
+use Rattle.ctaphid.specs.Transport.{Transport, Event, Next, nothing, reply, request, isValid, notValid, isShut, onInit, onLock, obey, dispatch, settle, withReceiver, serve, hear, step, fresh}
 use Rattle.ctaphid.specs.Demands.{Permitted}
 use Rattle.ctaphid.specs.Device.{Device, device, onWink, onMsg, onRequest, answered as answeredAbove, deviceStep}
 use Rattle.ctaphid.proofs.Tests.{pick-known, pick-both, both-pick}
@@ -36,7 +37,7 @@ use Rattle.hid.specs.declared.CtapHid.{CtapHid}
 use Rattle.hid.specs.declared.MainHid.{MainHid}
 use Rattle.hid.specs.Meaning.{settingsOf, transportOf, deviceOf, stateOf}
 use Rattle.hid.specs.Soundness.{Placed, Sound}
-use Rattle.hid.specs.Vendor.{vendorOf, allVendor, bitsOf}
+use Rattle.settings.specs.Vendor.{vendorOf, allVendor, bitsOf}
 use Rattle.hid.specs.declared.Ready.the-variants as ready
 use Rattle.hid.specs.declared.MainReady.the-variants as mainReady
 use Rattle.hid.specs.SetUp.{setUpRefusals, newOf, mainNewOf}
@@ -45,7 +46,7 @@ use Rattle.hid.specs.Hearing.{Stepping, stepping, messageAfter, heardOf}
 use Rattle.hid.specs.Refusals.{refusals}
 use Rattle.hid.specs.Transport.{admittedOf}
 use Rattle.hid.specs.MainHid.{MainStepping, mainStepping, mainHeardOf, mainStepOf}
-use Rattle.hid.proofs.Bits.{all-vendor-of, leaves-just-the-list}
+use Rattle.settings.proofs.Bits.{all-vendor-of, leaves-just-the-list}
 use Rattle.hid.proofs.Counting.{due-0, due-back}
 use Rattle.hid.proofs.Sound.{is-sound}
 use Rattle.hid.proofs.Heard.{holds-is}

@@ -3,7 +3,8 @@ use Prim.Native.Nat.{ℕ}
 use native.Mathlib.Omega.{arith}
 use mathlib.Core.Path.{_≡_, refl, sym, ap, _∙_}
 use mathlib.Core.List.{List, [], _∷_}
-use Rattle.ctaphid.specs.Transport.{Settings, Transport, Event, isLockedBy}
+use Rattle.ctaphid.specs.Settings.{Settings}
+use Rattle.ctaphid.specs.Transport.{Transport, Event, isLockedBy}
 use Rattle.ctaphid.specs.Receiver.{isOn}
 use Rattle.ctaphid.specs.Demands.{standard, Permitted, Taken, latest, after, Agrees, AnswersAlike}
 use Rattle.ctaphid.proofs.Forgetting.{forgotten, is-on-forgets}

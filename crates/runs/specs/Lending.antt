@@ -3,8 +3,9 @@ use Prim.Native.Nat.{ℕ, _<_}
 use mathlib.Core.Path.{_≡_}
 use mathlib.Core.List.{List, [], _∷_, map}
 use lib.ListN.{take}
+use Rattle.ctaphid.specs.Settings.{Settings}
 use Rattle.ctaphid.specs.Receiver.{stillDue}
-use Rattle.ctaphid.specs.Transport.{Settings, Event, fresh, step, afterwards, run}
+use Rattle.ctaphid.specs.Transport.{Event, fresh, step, afterwards, run}
 use Rattle.ctaphid.specs.Device.{setUp, deviceStep, deviceRun}
 use Rattle.ctaphid.specs.Demands.{Permitted}
 use Rattle.answers.specs.Answers.{Said, answered}

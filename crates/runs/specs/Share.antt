@@ -1,7 +1,8 @@
 -- The code as a device of which demand 3 can be asked, whoever calls it. Assumes nothing.
 use mathlib.Core.List.{List, [], _∷_}
+use Rattle.ctaphid.specs.Settings.{Settings}
 use Rattle.ctaphid.specs.Receiver.{isOn}
-use Rattle.ctaphid.specs.Transport.{Settings, Event, Answer, nothing, Next, next, isLockedBy}
+use Rattle.ctaphid.specs.Transport.{Event, Answer, nothing, Next, next, isLockedBy}
 use Rattle.ctaphid.specs.Demands.{AnyDevice, Permitted, Taken, after, GivesShare}
 use Rattle.answers.specs.Answers.{Said, refused, answered}
 use Rattle.hid.specs.declared.CtapHid.{CtapHid}

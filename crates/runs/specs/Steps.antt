@@ -5,7 +5,8 @@ use mathlib.Core.List.{List}
 use mathlib.Core.Bool.{true}
 use lib.ListN.{length}
 use Rattle.ctaphid.specs.Packets.{Bytes}
-use Rattle.ctaphid.specs.Transport.{Settings, Transport, Event, Next, step}
+use Rattle.ctaphid.specs.Settings.{Settings}
+use Rattle.ctaphid.specs.Transport.{Transport, Event, Next, step}
 use Rattle.ctaphid.specs.Device.{Device, deviceStep}
 use Rattle.ctaphid.specs.Demands.{Permitted}
 use Rattle.answers.specs.Answers.{Said, answered, said}

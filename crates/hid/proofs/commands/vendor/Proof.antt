@@ -4,8 +4,11 @@ use borrow.Author.Needs.{needs}
 use Rattle.hid.proofs.commands.vendor.Statement.{statement}
 use Rattle.hid.proofs.commands.vendor.Tie as tie
 
-is-allowed-requires : tie.Need-is-allowed-requires
-is-allowed-requires c κs = search needs
+settings-requires : tie.Need-settings-requires
+settings-requires c κs = search needs
+
+knows-requires : tie.Need-knows-requires
+knows-requires c κs = search needs
 
 hand-out-requires : tie.Need-hand-out-requires
 hand-out-requires c κs = search needs
@@ -26,7 +29,8 @@ pub vendor-spec : {M : Type 1} → statement M
 vendor-spec =
     tie.close
     (tie.spec
-    is-allowed-requires
+    settings-requires
+    knows-requires
     hand-out-requires
     returns
     error-message-requires

@@ -1,9 +1,9 @@
 -- `is_allowed` meets its contract. Assumes nothing.
 use native.Mathlib.Omega.{arith}
-use Rattle.hid.proofs.Bits.{tested}
+use Rattle.settings.proofs.Bits.{tested}
 use borrow.Author.Needs.{needs}
-use Rattle.hid.proofs.vendor.is_allowed.Statement.{statement}
-use Rattle.hid.proofs.vendor.is_allowed.Tie as tie
+use Rattle.settings.proofs.vendor.is_allowed.Statement.{statement}
+use Rattle.settings.proofs.vendor.is_allowed.Tie as tie
 
 sub-result : tie.Need-sub-result
 sub-result c = search needs

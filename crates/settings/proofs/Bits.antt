@@ -16,8 +16,8 @@ use Rattle.ctaphid.specs.Choice.{pick, isIn}
 use Rattle.ctaphid.specs.Commands.{isVendor}
 use Rattle.ctaphid.proofs.Tests.{pick-true, pick-known}
 use Rattle.ctaphid.proofs.Commands.{vendor-range, is-vendor}
-use Rattle.hid.specs.declared.vendor.Listed.the-variants.{Bits, Foreign}
-use Rattle.hid.specs.Vendor.{hasBit, setAmong, vendorOf, allVendor, bitOf, bitsWith, bitsOf, listedOf, LeavesJustTheList}
+use Rattle.settings.specs.declared.vendor.Listed.the-variants.{Bits, Foreign}
+use Rattle.settings.specs.Vendor.{hasBit, setAmong, vendorOf, allVendor, bitOf, bitsWith, bitsOf, listedOf, LeavesJustTheList}
 
 -- ---- bits
 

@@ -3,7 +3,7 @@ use packet::CtapHidCommand;
 ghost use mathlib.Core.Path.{_≡_};
 ghost use Prim.Native.Nat.{_≤_};
 ghost use Rattle.ctaphid.specs.Choice.{isIn};
-ghost use Rattle.hid.specs.Vendor.{vendorOf, bitOf, listedOf};
+ghost use Rattle.settings.specs.Vendor.{vendorOf, bitOf, listedOf};
 
 // A list's bits, or that it has a number that isn't the vendor's.
 pub enum Listed {
@@ -11,7 +11,7 @@ pub enum Listed {
     Foreign,
 }
 
-pub(crate) fn read_list(numbers: &[u8]) -> Listed
+pub fn read_list(numbers: &[u8]) -> Listed
     ensures { λ r. ⌜ r ≡ listedOf (now (numbers .entry)) ⌝ }
 {
     let mut bits = 0u64;

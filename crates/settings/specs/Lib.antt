@@ -1,0 +1,2 @@
+pub mod Vendor
+pub mod Meaning
