@@ -15,9 +15,9 @@ use Rattle.ctaphid.specs.Packets.{Packet, initialization, continuation, 
 use Rattle.ctaphid.specs.Commands.{Command, MSG, CBOR, INIT, PING, CANCEL, ERROR, KEEPALIVE, WINK, LOCK, number, commandOf, VENDOR}
 use Rattle.ctaphid.specs.Errors.{Error, InvalidCmd, InvalidPar, InvalidLen, ChannelBusy, code}
 use Rattle.ctaphid.specs.Settings.{Settings, knows}
-use Rattle.ctaphid.specs.Receiver.{Transaction, Receiver, idle, busy, Reception, silent, fault, whole, Turn, channelOf, collect, start, whenIdle, whenOver, onOwn, whenBusy, receive, isOn}
+use Rattle.ctaphid.specs.Receiver.{Transaction, Receiver, idle, busy, Reception, silent, fault, whole, Turn, channelOf, collect, startKnown, start, whenIdle, whenOver, onOwn, whenBusy, receive, isOn}
 use Rattle.ctaphid.specs.Transport.{Lock, Transport, Event, Answer, nothing, reply, request, Next, error, notValid, isLocked, isLockedBy, onInit, lockFor, onLock, dispatch, settle, hear, withReceiver, obey}
-use Rattle.ctaphid.specs.Demands.{standard, Taken, latest, after, answer, Begun, Since, TransactionsEndWithin, TransactionsEnd, Locked, LocksEnd}
+use Rattle.ctaphid.specs.Demands.{standard, Taken, latest, after, answer, on, Begun, Since, TransactionsEndWithin, TransactionsEnd, Locked, LocksEnd}
 use Rattle.ctaphid.proofs.Tests.{pick-true, pick-both, pick-known}
 use Rattle.ctaphid.proofs.Invariant.{Runs, Receives, Holds, holds-later, reads-lock, keeps-dispatch}
 use Rattle.ctaphid.proofs.Histories.{settings-after, holds-after, IsFirst, first-read, read-is-first, on-read, AsksFor, asks-lock}
@@ -59,28 +59,30 @@ record Turned (B : ℕ → ℕ → Type 0) (time : ℕ) (p : Packet) (t : Turn) 
   begins : BeginsIn (NowOr B time p (t .reception)) (t .receiver)
   whence : Whence p (t .reception)
 
-module _ (B : ℕ → ℕ → Type 0) (max n time : ℕ) where
-  turned-start : (c cmd declared : ℕ) (field : List ℕ) → Turned B time (initialization c cmd declared field) (start max time c cmd declared field)
-  unfolding start collect
+module _ (B : ℕ → ℕ → Type 0) (set : Settings) (n time : ℕ) where
+  turned-start : (c cmd declared : ℕ) (field : List ℕ) → Turned B time (initialization c cmd declared field) (start set time c cmd declared field)
+  unfolding start startKnown collect
   turned-start c cmd declared field =
       pick-both (λ (t : Turn). Turned B time (initialization c cmd declared field) t) _ _ _
+      (pick-both (λ (t : Turn). Turned B time (initialization c cmd declared field) t) _ _ _
       (record { begins = tt; whence = tt })
       (pick-known (λ (t : Turn). Turned B time (initialization c cmd declared field) t) (ltb (length field) declared) _ _
       (λ l. record { begins = record { start = time; begun = inl (tt, refl, refl, refl); within = omega arith }; whence = tt })
-      (λ l. record { begins = tt; whence = inl (refl, refl, ltb-false (length field) declared l, refl) }))
+      (λ l. record { begins = tt; whence = inl (refl, refl, ltb-false (length field) declared l, refl) })))
+      (record { begins = tt; whence = tt })
 
-  turned-idle : (p : Packet) → Turned B time p (whenIdle max time p)
+  turned-idle : (p : Packet) → Turned B time p (whenIdle set time p)
   unfolding whenIdle
   turned-idle (initialization c cmd declared field) = turned-start c cmd declared field
   turned-idle (continuation c k field) = record { begins = tt; whence = tt }
 
-  turned-over : (t : Transaction) (p : Packet) → Turned B time p (whenOver max time t p)
+  turned-over : (t : Transaction) (p : Packet) → Turned B time p (whenOver set time t p)
   unfolding whenOver
   turned-over t (initialization c cmd declared field) = turned-idle (initialization c cmd declared field)
   turned-over t (continuation c k field) =
       pick-both (λ (x : Turn). Turned B time (continuation c k field) x) _ _ _ (record { begins = tt; whence = tt }) (turned-idle (continuation c k field))
 
-  turned-own : (t : Transaction) (p : Packet) → Runs max n time t → Begins B t → time < t .deadline → Turned B time p (onOwn max time t p)
+  turned-own : (t : Transaction) (p : Packet) → Runs (set .maximum) n time t → Begins B t → time < t .deadline → Turned B time p (onOwn set time t p)
   unfolding onOwn collect
   turned-own t (initialization c cmd declared field) r b live =
       pick-both (λ (x : Turn). Turned B time (initialization c cmd declared field) x) _ _ _ (turned-start c cmd declared field) (record { begins = tt; whence = tt })
@@ -93,7 +95,7 @@ module _ (B : ℕ → ℕ → Type 0) (max n time : ℕ) where
       record { begins = tt; whence = inr (omega (arith, size, r .below, r .bytes)) }))
       (record { begins = tt; whence = tt })
 
-  turned : (r : Receiver) (p : Packet) → Receives max n time r → BeginsIn B r → Turned B time p (receive max time r p)
+  turned : (r : Receiver) (p : Packet) → Receives (set .maximum) n time r → BeginsIn B r → Turned B time p (receive set time r p)
   unfolding receive whenBusy
   turned idle p r b = turned-idle p
   turned (busy t) p r b =
@@ -112,7 +114,7 @@ At B time p a c t = (IsFirst p × (channelOf p ≡ c) × (a ≡ nothing) × (tim
 abbrev BeginsAfter : (ℕ → ℕ → Type 0) → ℕ → Packet → Next Transport → Type 0
 BeginsAfter B time p x = BeginsIn (At B time p (x .answer)) (x .state .receiver)
 
-some-answer : (c : ℕ) (cmd : Command) (l : List ℕ) → reply c cmd l ≡ nothing → ⊥
+pub some-answer : (c : ℕ) (cmd : Command) (l : List ℕ) → reply c cmd l ≡ nothing → ⊥
 some-answer c cmd l e = let z : _≡_ {A = ℕ} 0 1 = cc in omega arith
 
 fault≢silent : {e : Error} → fault e ≡ silent → ⊥
@@ -164,23 +166,29 @@ module _ (B : ℕ → ℕ → Type 0) (time : ℕ) where
       pick-both (λ (x : Next Transport). BeginsAfter B time p x) _ _ _
       (pick-both (λ (x : Next Transport). BeginsAfter B time p x) _ _ _
       (kept-begins (d .receiver) p (error (channelOf p) ChannelBusy) (λ f q. some-answer (channelOf p) ERROR (6 ∷ []) q) k)
-      (let t : Turn = receive (d .settings .maximum) time (d .receiver) p in
+      (let t : Turn = receive (d .settings) time (d .receiver) p in
       settle-begins (withReceiver d (t .receiver)) (channelOf p) p (t .reception)
-      (turned B (d .settings .maximum) (d .allocated) time (d .receiver) p (h .receiver) k .begins)))
+      (turned B (d .settings) (d .allocated) time (d .receiver) p (h .receiver) k .begins)))
       (kept-begins (d .receiver) p (notValid p) (unknown p) k)
     where
       unknown : (q : Packet) → IsFirst q → notValid q ≡ nothing → ⊥
       unknown (initialization c cmd n field) f z = some-answer c ERROR (11 ∷ []) z
       unknown (continuation c i field) f z = f
 
--- the invariant
-abbrev Began : Settings → List Event → ℕ → ℕ → Type 0
-Began set past c t = Begun standard set c past t
+-- the invariant: the packet by which it began, by its channel and its time
+record Began (set : Settings) (past : List Event) (c t : ℕ) : Type 0 where
+  first : Event
+  begun : Begun standard set past first
+  channel : on first ≡ c
+  time : first .time ≡ t
 
 -- `Begun` names the packet by its bytes
 begun-told : (set : Settings) (past : List Event) (e : Event) (c t : ℕ) → At (Began set past) (e .time) (read (e .packet)) (answer standard set past e) c t → Began set (e ∷ past) c t
-begun-told set past e c t (inl h) = inl (read-is-first e (h .0), sym (on-read e) ∙ h .1, h .2, h .3)
-begun-told set past e c t (inr h) = inr ((λ f q. h .0 (first-read e f) q), h .1)
+begun-told set past e c t (inl h) =
+    record { first = e; begun = inl (read-is-first e (h .0), h .2, refl); channel = sym (on-read e) ∙ h .1; time = h .3 }
+begun-told set past e c t (inr h) =
+    let b : Began set past c t = h .1 in
+    record { first = b .first; begun = inr ((λ f q. h .0 (first-read e f) q), b .begun); channel = b .channel; time = b .time }
 
 holds-at : (set : Settings) (e : Event) (past : List Event) → Taken (e ∷ past) → Holds (after standard set past) (e .time)
 holds-at set e past taken = holds-later (after standard set past) (latest past) (e .time) (taken .1) (holds-after set past (taken .2))
@@ -204,18 +212,19 @@ transactions-end-sharp set large past taken time onward c live =
     ended : (r : Receiver) → Receives (after standard set past .settings .maximum) (after standard set past .allocated) (latest past) r → BeginsIn (Began set past) r → isOn r c time ≡ true → Since 12673 standard set c past time
     ended idle k b l = absurd (true≢false (sym l))
     ended (busy t) k b l =
-        let on : (eqb (t .channel) c ≡ true) × (ltb time (t .deadline) ≡ true) = pick-true _ _ l in
-        let early : time < t .deadline = ltb-true time (t .deadline) (on .1) in
+        let own : (eqb (t .channel) c ≡ true) × (ltb time (t .deadline) ≡ true) = pick-true _ _ l in
+        let early : time < t .deadline = ltb-true time (t .deadline) (own .1) in
         record {
-          start = b .start;
-          begun = subst (λ (o : ℕ). Began set past o (b .start)) (eqb-true (t .channel) c (on .0)) (b .begun);
-          within = omega (arith, early, maximum, large .most, k .most, k .below, k .bytes, b .within);
+          first = b .begun .first;
+          begun = b .begun .begun;
+          channel = b .begun .channel ∙ eqb-true (t .channel) c (own .0);
+          within = omega (arith, early, maximum, large .most, k .most, k .below, k .bytes, b .within, b .begun .time);
         }
 
 pub transactions-end : TransactionsEnd standard
 transactions-end set large past taken time onward c live =
     let s : Since 12673 standard set c past time = transactions-end-sharp set large past taken time onward c live in
-    record { start = s .start; begun = s .begun; within = omega (arith, s .within) }
+    record { first = s .first; begun = s .begun; channel = s .channel; within = omega (arith, s .within) }
 
 -- ---- the transport: locks
 
@@ -341,9 +350,9 @@ module _ (L : ℕ → ℕ → ℕ → Type 0) (time : ℕ) where
       pick-both (λ (x : Next Transport). HeldAfter L time p x) _ _ _
       (pick-both (λ (x : Next Transport). HeldAfter L time p x) _ _ _
       (kept-lock p (d .lock) (error (channelOf p) ChannelBusy) (λ z. omega arith) k)
-      (let t : Turn = receive (d .settings .maximum) time (d .receiver) p in
+      (let t : Turn = receive (d .settings) time (d .receiver) p in
       settle-lock p (withReceiver d (t .receiver)) (channelOf p) (t .reception) k
-      (turned B (d .settings .maximum) (d .allocated) time (d .receiver) p (h .receiver) b .whence)))
+      (turned B (d .settings) (d .allocated) time (d .receiver) p (h .receiver) b .whence)))
       (kept-lock p (d .lock) (notValid p) (unknown p) k)
     where
       unknown : (q : Packet) → commandIn (notValid q) ≡ 4 → ⊥

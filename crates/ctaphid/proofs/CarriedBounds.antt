@@ -5,17 +5,18 @@ use mathlib.Core.List.{List, [], _∷_}
 use mathlib.Core.Logic.{inl, inr, ⊎-elim}
 use Rattle.ctaphid.specs.Settings.{Settings}
 use Rattle.ctaphid.specs.Transport.{Event}
-use Rattle.ctaphid.specs.Demands.{AnyDevice, standard, Permitted, Taken, on, Begun, Since, TransactionsEndWithin, TransactionsEnd, Locked, Holding, LocksEnd, Against, Honest, HeldBy, NoneShutOut, Agrees, AnswersAlike}
+use Rattle.ctaphid.specs.Demands.{AnyDevice, standard, Permitted, Taken, on, Begun, Since, TransactionsEndWithin, TransactionsEnd, Locked, Holding, LocksEnd, Against, Honest, HeldBy, NoneShutOut, UnknownToldAtOnce, NoneShutOutByUnknown, Agrees, AnswersAlike}
 use Rattle.ctaphid.proofs.Bounds.{transactions-end-sharp, transactions-end, locks-end}
 use Rattle.ctaphid.proofs.Shut.{honest, none-shut-out}
+use Rattle.ctaphid.proofs.Unknown.{unknown-told-at-once, both-shut-out}
 
 -- ---- what a history says is the same of both
 module _ (D : AnyDevice) (agrees : Agrees D) (set : Settings) (large : Permitted set) where
-  begun-carried : (c t : ℕ) (past : List Event) → Taken past → Begun standard set c past t → Begun D set c past t
-  begun-carried c t [] taken b = b
-  begun-carried c t (e ∷ past) taken (inl b) = inl (b .0, b .1, agrees set large past e taken ∙ b .2, b .3)
-  begun-carried c t (e ∷ past) taken (inr b) =
-      inr ((λ f q. b .0 f (sym (agrees set large past e taken) ∙ q)), begun-carried c t past (taken .2) (b .1))
+  begun-carried : (first : Event) (past : List Event) → Taken past → Begun standard set past first → Begun D set past first
+  begun-carried first [] taken b = b
+  begun-carried first (e ∷ past) taken (inl b) = inl (b .0, agrees set large past e taken ∙ b .1, b .2)
+  begun-carried first (e ∷ past) taken (inr b) =
+      inr ((λ f q. b .0 f (sym (agrees set large past e taken) ∙ q)), begun-carried first past (taken .2) (b .1))
 
   locked-carried : (c k t : ℕ) (past : List Event) → Taken past → Locked standard set c past k t → Locked D set c past k t
   locked-carried c k t [] taken b = b
@@ -25,7 +26,7 @@ module _ (D : AnyDevice) (agrees : Agrees D) (set : Settings) (large : Permitted
 
   since-carried : (bound c : ℕ) (past : List Event) (time : ℕ) → Taken past → Since bound standard set c past time → Since bound D set c past time
   since-carried bound c past time taken s =
-      record { start = s .start; begun = begun-carried c (s .start) past taken (s .begun); within = s .within }
+      record { first = s .first; begun = begun-carried (s .first) past taken (s .begun); channel = s .channel; within = s .within }
 
   holding-carried : (c : ℕ) (past : List Event) (time : ℕ) → Taken past → Holding standard set c past time → Holding D set c past time
   holding-carried c past time taken h =
@@ -51,6 +52,13 @@ none-shut-out-carried D agrees set large past e taken enabled told =
           (λ k. inr (holding-carried D agrees set large (h .holder) past (e .time) (taken .2) k))
           (h .holds);
     }
+
+pub unknown-told-carried : (D : AnyDevice) → Agrees D → UnknownToldAtOnce D
+unknown-told-carried D agrees set large past e taken first hushed =
+    unknown-told-at-once set large past e taken first (sym (agrees set large past e taken) ∙ hushed)
+
+pub none-shut-out-by-unknown-carried : (D : AnyDevice) → Agrees D → NoneShutOutByUnknown D
+none-shut-out-by-unknown-carried D agrees = both-shut-out D (none-shut-out-carried D agrees) (unknown-told-carried D agrees)
 
 -- ---- with questions that are answered alike
 pub transactions-end-within-carried : (bound : ℕ) → TransactionsEndWithin bound standard → (D : AnyDevice) → Agrees D → AnswersAlike D → TransactionsEndWithin bound D

@@ -14,7 +14,7 @@ use Rattle.ctaphid.specs.Packets.{Packet, initialization, read, written}
 use Rattle.ctaphid.specs.Messages.{later, chunks, padded, fields, packets, wire}
 use Rattle.ctaphid.specs.Limits.{timeout}
 use Rattle.ctaphid.specs.Settings.{Settings}
-use Rattle.ctaphid.specs.Receiver.{Transaction, idle, busy, silent, whole, Turn, turn, collect, start, isOn, stillDue}
+use Rattle.ctaphid.specs.Receiver.{Transaction, idle, busy, silent, whole, Turn, turn, collect, startKnown, start, isOn, stillDue}
 use Rattle.ctaphid.specs.Transport.{Transport, Event, nothing, Next, next, broadcast, isAllocated, isLockedAgainst, withReceiver, settle, settled, step}
 use Rattle.ctaphid.specs.Demands.{standard, latest, after, Sent, Ends, Message, aPing, aMsg, aWink, aCbor, aVendor, numberOf, handedOut, Delivery}
 use Rattle.ctaphid.specs.StillDue.{Fields, dueNext, completed}
@@ -22,7 +22,7 @@ use Rattle.ctaphid.proofs.Splitting.{padded-full, later-length, fields-
 use Rattle.ctaphid.proofs.Packets.{read-written}
 use Rattle.ctaphid.proofs.Commands.{vendor-range}
 use Rattle.ctaphid.proofs.Invariant.{Holds}
-use Rattle.ctaphid.proofs.Steps.{receive-free, allocated-most, allocated-valid, unlocked-for, let-through, served, Handed, handed, dispatched}
+use Rattle.ctaphid.proofs.Steps.{receive-free, allocated-most, allocated-valid, unlocked-for, let-through, served, Handed, handed, handed-known, dispatched}
 use Rattle.ctaphid.proofs.Histories.{settings-after, holds-after}
 use Rattle.ctaphid.proofs.StillDue.{Midst, Then, hush-nothing, none-due, some-due, all}
 
@@ -98,14 +98,15 @@ module _ (d : Transport) (c : ℕ) (m : Message) (ok : Handed (d .settings) m) (
   reads-first : read (e .packet) ≡ opening c m payload
   reads-first = ap read opened ∙ read-written (opening c m payload) (omega arith, number-small (d .settings) m ok, omega arith, filled-length 57 payload)
 
-  starts : (x : Turn) → start (d .settings .maximum) (e .time) c (numberOf m) (length payload) (filled 57 payload) ≡ x → step d e ≡ settled d (e .time) c x
+  starts : (x : Turn) → startKnown (d .settings .maximum) (e .time) c (numberOf m) (length payload) (filled 57 payload) ≡ x → step d e ≡ settled d (e .time) c x
+  unfolding start pick
   starts x q =
       simp (enabled, reads-first)
       (let-through d (e .time) (opening c m payload) (allocated-valid (d .allocated) (opening c m payload) small allocated) unlocked
-      ∙ served d (e .time) (opening c m payload) x (receive-free (d .settings .maximum) (e .time) (d .receiver) c (numberOf m) (length payload) (filled 57 payload) quiet ∙ q))
+      ∙ served d (e .time) (opening c m payload) x (receive-free (d .settings) (e .time) (d .receiver) c (numberOf m) (length payload) (filled 57 payload) quiet ∙ simp (handed-known (d .settings) m ok) q))
 
   short : length payload ≤ 57 → step d e .answer ≡ handedOut m c payload
-  unfolding start collect pick settle
+  unfolding startKnown collect pick settle
   short h =
       let q : length payload ≤ length (filled 57 payload) = simp (filled-length 57 payload) h in
       ap (λ (n : Next Transport). n .answer)
@@ -113,7 +114,7 @@ module _ (d : Transport) (c : ℕ) (m : Message) (ok : Handed (d .settings) m) (
       ∙ dispatched (withReceiver d idle) (e .time) c m payload ok)
 
   long : 57 < length payload → step d e ≡ next (withReceiver d (busy (begun (e .time) c m payload))) nothing
-  unfolding start collect pick settle
+  unfolding startKnown collect pick settle
   long h =
       let q : length (filled 57 payload) < length payload = simp (filled-length 57 payload) h in
       starts (turn (busy (begun (e .time) c m payload)) silent) (simp (le-ltb _ _ fits, lt-ltb _ _ q))

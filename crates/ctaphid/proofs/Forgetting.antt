@@ -8,6 +8,7 @@ use borrow.Author.Tests.{le-leb, leb-true}
 use lib.Dec.{leb}
 use Rattle.ctaphid.specs.Choice.{pick}
 use Rattle.ctaphid.specs.Packets.{Packet, initialization, continuation}
+use Rattle.ctaphid.specs.Settings.{Settings}
 use Rattle.ctaphid.specs.Receiver.{Transaction, Receiver, idle, busy, Turn, channelOf, whenOver, whenBusy, receive, isOn, stillDue}
 use Rattle.ctaphid.specs.Transport.{Transport, Next, isValid, isShut, settled, withReceiver, hear}
 use Rattle.ctaphid.proofs.Tests.{pick-both, pick-known, both-pick}
@@ -45,17 +46,17 @@ forgetting-due time idle = refl
 forgetting-due time (busy t) = pick-both (λ (r : Receiver). stillDue r ≡ stillDue (busy t)) (leb (t .deadline) time) _ _ refl refl
 
 -- ---- no answer depends on them
-over-forgets : (max time : ℕ) (t : Transaction) (p : Packet) → whenOver max time (emptied t) p ≡ whenOver max time t p
+over-forgets : (set : Settings) (time : ℕ) (t : Transaction) (p : Packet) → whenOver set time (emptied t) p ≡ whenOver set time t p
 unfolding whenOver
-over-forgets max time t (initialization c cmd n field) = refl
-over-forgets max time t (continuation c k field) = refl
+over-forgets set time t (initialization c cmd n field) = refl
+over-forgets set time t (continuation c k field) = refl
 
-receive-forgets : (max time : ℕ) (r : Receiver) (p : Packet) → receive max time (forgetting time r) p ≡ receive max time r p
+receive-forgets : (set : Settings) (time : ℕ) (r : Receiver) (p : Packet) → receive set time (forgetting time r) p ≡ receive set time r p
 unfolding receive forgetting pick
-receive-forgets max time idle p = refl
-receive-forgets max time (busy t) p =
-    pick-known (λ (r : Receiver). receive max time r p ≡ receive max time (busy t) p) (leb (t .deadline) time) _ _
-    (λ e. ap (λ (x : Turn). pick (leb (t .deadline) time) x (whenBusy max time (emptied t) p)) (over-forgets max time t p) ∙ simp e)
+receive-forgets set time idle p = refl
+receive-forgets set time (busy t) p =
+    pick-known (λ (r : Receiver). receive set time r p ≡ receive set time (busy t) p) (leb (t .deadline) time) _ _
+    (λ e. ap (λ (x : Turn). pick (leb (t .deadline) time) x (whenBusy set time (emptied t) p)) (over-forgets set time t p) ∙ simp e)
     (λ e. refl)
 
 -- two steps that answer alike and lead to what is alike
@@ -68,7 +69,7 @@ hear-forgets time disabled d p =
     both-pick (Alike time) (isValid (d .allocated) p) _ _ _ _
     (λ v. both-pick (Alike time) (isShut (d .lock) time disabled (channelOf p)) _ _ _ _
     (λ s. (refl, same))
-    (λ s. let e = receive-forgets (d .settings .maximum) time (d .receiver) p in (ap (λ (t : Turn). settled d time (channelOf p) t .answer) e, ap (λ (t : Turn). forgotten time (settled d time (channelOf p) t .state)) e)))
+    (λ s. let e = receive-forgets (d .settings) time (d .receiver) p in (ap (λ (t : Turn). settled d time (channelOf p) t .answer) e, ap (λ (t : Turn). forgotten time (settled d time (channelOf p) t .state)) e)))
     (λ v. (refl, same))
   where
     same : forgotten time (forgotten time d) ≡ forgotten time d

@@ -13,7 +13,7 @@ use Rattle.ctaphid.specs.Packets.{channelIn, declaredIn, read, written}
 use Rattle.ctaphid.specs.Messages.{later, chunks, padded, fields, continuations, packets}
 use Rattle.ctaphid.specs.Commands.{PING, CBOR, VENDOR, isVendor, among}
 use Rattle.ctaphid.specs.Settings.{Settings, knows}
-use Rattle.ctaphid.specs.Receiver.{collect, start, whenIdle, whenOver, onOwn, whenBusy, receive, isOn}
+use Rattle.ctaphid.specs.Receiver.{collect, startKnown, start, whenIdle, whenOver, onOwn, whenBusy, receive, isOn}
 use Rattle.ctaphid.specs.Transport.{Event, reply, request, isAllocated, isValid, isLockedBy, isLockedAgainst, isShut, nextChannel, onInit, dispatch, settle, hear, obey}
 use Rattle.ctaphid.specs.Demands.{AnyDevice, standard, Permitted, Proper, Taken, after, answer, busyOn, Open, Sending, Ends, aPing, aCbor, aVendor, Delivery}
 use Rattle.ctaphid.proofs.Tests.{pick-true, pick-known}
@@ -83,7 +83,7 @@ two-taken = (proper 0 init (omega arith) refl refl, omega arith, (proper 0 init 
 
 -- channel 1 may begin
 pub two-open : (l : List ℕ) → Open (allowing l) two 5 1
-unfolding read channelIn declaredIn hear isShut settle dispatch knows obey isVendor onInit nextChannel isAllocated isValid isLockedBy isLockedAgainst isOn receive whenIdle start collect among pick
+unfolding read channelIn declaredIn hear isShut settle dispatch knows obey isVendor onInit nextChannel isAllocated isValid isLockedBy isLockedAgainst isOn receive whenIdle start startKnown collect among pick
 two-open l = record { allocated = refl; quiet = λ o. refl; unlocked = λ o h. refl }
 
 -- ---- a message in one packet
@@ -145,5 +145,5 @@ vendor-delivered = vendor-packets standard delivery
 
 -- the packet in between is told that the device is busy, by computation
 pub between-busy : answer standard settings (at 5 (begins 16 7) ∷ two) (at 50 (ping 2)) ≡ busyOn 2
-unfolding read channelIn declaredIn hear isShut settle dispatch knows obey isVendor onInit nextChannel isAllocated isValid isLockedAgainst receive whenIdle whenOver whenBusy onOwn start collect among pick
+unfolding read channelIn declaredIn hear isShut settle dispatch knows obey isVendor onInit nextChannel isAllocated isValid isLockedAgainst receive whenIdle whenOver whenBusy onOwn start startKnown collect among pick
 between-busy = refl

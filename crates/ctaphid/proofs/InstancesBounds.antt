@@ -11,13 +11,14 @@ use Rattle.ctaphid.specs.Choice.{pick}
 use Rattle.ctaphid.specs.Packets.{Bytes, channelIn, declaredIn, read}
 use Rattle.ctaphid.specs.Commands.{PING, among, isVendor}
 use Rattle.ctaphid.specs.Settings.{Settings, knows}
-use Rattle.ctaphid.specs.Receiver.{collect, start, whenIdle, whenOver, whenBusy, receive, isOn}
+use Rattle.ctaphid.specs.Receiver.{collect, startKnown, start, whenIdle, whenOver, whenBusy, receive, isOn}
 use Rattle.ctaphid.specs.Transport.{Event, reply, isAllocated, isValid, isLockedBy, isLockedAgainst, isShut, nextChannel, onInit, lockFor, onLock, dispatch, settle, hear, obey}
-use Rattle.ctaphid.specs.Demands.{Permitted, standard, Proper, Taken, after, answer, Since, Holding, busyOn, HeldBy}
+use Rattle.ctaphid.specs.Demands.{Permitted, standard, Proper, Taken, after, answer, Since, Holding, busyOn, HeldBy, HeldByKnown}
 use Rattle.ctaphid.proofs.Histories.{none-permitted}
 use Rattle.ctaphid.proofs.Tests.{pick-true}
 use Rattle.ctaphid.proofs.Bounds.{transactions-end-sharp, transactions-end, locks-end}
 use Rattle.ctaphid.proofs.Shut.{none-shut-out}
+use Rattle.ctaphid.proofs.Unknown.{none-shut-out-by-unknown}
 
 -- ---- events
 
@@ -91,11 +92,11 @@ locked-taken = (proper (at 5 (lock 1)) refl refl (omega arith), omega arith, two
 
 -- ---- the transaction is on at 104, and not at 105
 transaction-on : standard .isOn (after standard settings begun) 1 104 ≡ true
-unfolding read channelIn declaredIn hear isShut settle dispatch knows obey isVendor among onInit nextChannel isAllocated isValid isLockedAgainst isOn receive whenIdle start collect pick
+unfolding read channelIn declaredIn hear isShut settle dispatch knows obey isVendor among onInit nextChannel isAllocated isValid isLockedAgainst isOn receive whenIdle start startKnown collect pick
 transaction-on = refl
 
 pub transaction-off : standard .isOn (after standard settings begun) 1 105 ≡ false
-unfolding read channelIn declaredIn hear isShut settle dispatch knows obey isVendor among onInit nextChannel isAllocated isValid isLockedAgainst isOn receive whenIdle start collect pick
+unfolding read channelIn declaredIn hear isShut settle dispatch knows obey isVendor among onInit nextChannel isAllocated isValid isLockedAgainst isOn receive whenIdle start startKnown collect pick
 transaction-off = refl
 
 pub transaction-ends : Since 12800 standard settings 1 begun 104
@@ -106,11 +107,11 @@ transaction-ends-sharp = transactions-end-sharp settings permitted begun begun-t
 
 -- ---- the lock runs at 1,004, and not at 1,005
 lock-on : standard .isLockedBy (after standard settings locked) 1 1004 ≡ true
-unfolding read channelIn declaredIn hear isShut settle dispatch knows obey isVendor among onInit onLock lockFor nextChannel isAllocated isValid isLockedBy isLockedAgainst receive whenIdle start collect pick
+unfolding read channelIn declaredIn hear isShut settle dispatch knows obey isVendor among onInit onLock lockFor nextChannel isAllocated isValid isLockedBy isLockedAgainst receive whenIdle start startKnown collect pick
 lock-on = refl
 
 pub lock-off : standard .isLockedBy (after standard settings locked) 1 1005 ≡ false
-unfolding read channelIn declaredIn hear isShut settle dispatch knows obey isVendor among onInit onLock lockFor nextChannel isAllocated isValid isLockedBy isLockedAgainst receive whenIdle start collect pick
+unfolding read channelIn declaredIn hear isShut settle dispatch knows obey isVendor among onInit onLock lockFor nextChannel isAllocated isValid isLockedBy isLockedAgainst receive whenIdle start startKnown collect pick
 lock-off = refl
 
 pub lock-ends : Holding standard settings 1 locked 1004
@@ -118,11 +119,11 @@ lock-ends = locks-end settings permitted locked locked-taken 1004 (omega arith) 
 
 -- ---- channel 2 is turned away by each, and by neither when it is over
 busy-by-transaction : answer standard settings begun (at 104 (ping 2)) ≡ busyOn 2
-unfolding read channelIn declaredIn hear isShut settle dispatch knows obey isVendor among onInit nextChannel isAllocated isValid isLockedAgainst receive whenIdle whenBusy start collect pick
+unfolding read channelIn declaredIn hear isShut settle dispatch knows obey isVendor among onInit nextChannel isAllocated isValid isLockedAgainst receive whenIdle whenBusy start startKnown collect pick
 busy-by-transaction = refl
 
 busy-by-lock : answer standard settings locked (at 1004 (ping 2)) ≡ busyOn 2
-unfolding read channelIn declaredIn hear isShut settle dispatch knows obey isVendor among onInit onLock lockFor nextChannel isAllocated isValid isLockedAgainst receive whenIdle start collect pick
+unfolding read channelIn declaredIn hear isShut settle dispatch knows obey isVendor among onInit onLock lockFor nextChannel isAllocated isValid isLockedAgainst receive whenIdle start startKnown collect pick
 busy-by-lock = refl
 
 pub turned-away-by-transaction : HeldBy standard settings begun 2 104
@@ -130,15 +131,21 @@ unfolding allBytes pick
 turned-away-by-transaction =
     none-shut-out settings permitted begun (at 104 (ping 2)) (proper (at 104 (ping 2)) refl refl (omega arith), omega arith, begun-taken) refl busy-by-transaction
 
+-- by a command that is known
+pub turned-away-by-known : HeldByKnown standard settings begun 2 104
+unfolding allBytes pick
+turned-away-by-known =
+    none-shut-out-by-unknown settings permitted begun (at 104 (ping 2)) (proper (at 104 (ping 2)) refl refl (omega arith), omega arith, begun-taken) refl busy-by-transaction
+
 pub turned-away-by-lock : HeldBy standard settings locked 2 1004
 unfolding allBytes pick
 turned-away-by-lock =
     none-shut-out settings permitted locked (at 1004 (ping 2)) (proper (at 1004 (ping 2)) refl refl (omega arith), omega arith, locked-taken) refl busy-by-lock
 
 pub served-after-transaction : answer standard settings begun (at 105 (ping 2)) ≡ reply 2 PING (0xab ∷ 0xcd ∷ [])
-unfolding read channelIn declaredIn hear isShut settle dispatch knows obey isVendor among onInit nextChannel isAllocated isValid isLockedAgainst receive whenIdle whenOver start collect pick
+unfolding read channelIn declaredIn hear isShut settle dispatch knows obey isVendor among onInit nextChannel isAllocated isValid isLockedAgainst receive whenIdle whenOver start startKnown collect pick
 served-after-transaction = refl
 
 pub served-after-lock : answer standard settings locked (at 1005 (ping 2)) ≡ reply 2 PING (0xab ∷ 0xcd ∷ [])
-unfolding read channelIn declaredIn hear isShut settle dispatch knows obey isVendor among onInit onLock lockFor nextChannel isAllocated isValid isLockedAgainst receive whenIdle start collect pick
+unfolding read channelIn declaredIn hear isShut settle dispatch knows obey isVendor among onInit onLock lockFor nextChannel isAllocated isValid isLockedAgainst receive whenIdle start startKnown collect pick
 served-after-lock = refl

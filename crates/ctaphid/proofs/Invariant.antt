@@ -13,7 +13,7 @@ use Rattle.ctaphid.specs.Choice.{pick}
 use Rattle.ctaphid.specs.Packets.{Packet, initialization, continuation, Formed}
 use Rattle.ctaphid.specs.Commands.{Command, MSG, CBOR, INIT, PING, CANCEL, ERROR, KEEPALIVE, WINK, LOCK, number, among, commandOf, commands, isVendor, VENDOR}
 use Rattle.ctaphid.specs.Settings.{Settings, knows}
-use Rattle.ctaphid.specs.Receiver.{Transaction, Receiver, idle, busy, Reception, silent, fault, whole, Turn, channelOf, collect, start, whenIdle, whenOver, onOwn, whenBusy, receive}
+use Rattle.ctaphid.specs.Receiver.{Transaction, Receiver, idle, busy, Reception, silent, fault, whole, Turn, channelOf, collect, startKnown, start, whenIdle, whenOver, onOwn, whenBusy, receive}
 use Rattle.ctaphid.specs.Transport.{Lock, Transport, fresh, Next, broadcast, isAllocated, isValid, isLockedAgainst, isShut, nextChannel, onInit, lockFor, onLock, dispatch, settle, serve, hear, withReceiver, withAllocated, withLock, obey}
 use Rattle.ctaphid.proofs.Tests.{pick-true, pick-both, pick-known}
 
@@ -78,7 +78,10 @@ pub record Turns (max allocated time : ℕ) (t : Turn) : Type 0 where
   pub receives : Receives max allocated time (t .receiver)
   pub tells : Tells max allocated (t .receiver) (t .reception)
 
-module _ (max n time : ℕ) where
+module _ (set : Settings) (n time : ℕ) where
+  abbrev max : ℕ
+  max = set .maximum
+
   either : (b : Bool) (x y : Turn) → Turns max n time x → Turns max n time y → Turns max n time (pick b x y)
   either b x y p q = pick-both (λ (t : Turn). Turns max n time t) b x y p q
 
@@ -95,24 +98,29 @@ module _ (max n time : ℕ) where
       let size : length (take (t .declared) (t .collected ++ field)) ≡ t .declared = length-take-le (t .declared) (t .collected ++ field) long in
       record { receives = tt; tells = (refl, omega arith, channel) })
 
-  turns-start : (c cmd declared : ℕ) (field : List ℕ) → cmd ≤ 127 → length field ≡ 57 → Allowed n c cmd → Turns max n time (start max time c cmd declared field)
-  unfolding start
-  turns-start c cmd declared field command size channel =
+  turns-known : (c cmd declared : ℕ) (field : List ℕ) → cmd ≤ 127 → length field ≡ 57 → Allowed n c cmd → Turns max n time (startKnown max time c cmd declared field)
+  unfolding startKnown
+  turns-known c cmd declared field command size channel =
       pick-known (λ (x : Turn). Turns max n time x) (ltb max declared) _ _
       (λ e. record { receives = tt; tells = tt })
       (λ e. turns-collect (record { channel = c; command = cmd; declared = declared; collected = []; due = 0; deadline = time + 100 }) field command (ltb-false max declared e) (omega arith) channel (omega arith))
 
-  turns-idle : (p : Packet) → Formed p → Asks n p → Turns max n time (whenIdle max time p)
+  turns-start : (c cmd declared : ℕ) (field : List ℕ) → cmd ≤ 127 → length field ≡ 57 → Allowed n c cmd → Turns max n time (start set time c cmd declared field)
+  unfolding start
+  turns-start c cmd declared field command size channel =
+      either (knows set (commandOf cmd)) _ _ (turns-known c cmd declared field command size channel) (record { receives = tt; tells = tt })
+
+  turns-idle : (p : Packet) → Formed p → Asks n p → Turns max n time (whenIdle set time p)
   unfolding whenIdle
   turns-idle (initialization c cmd declared field) f a = turns-start c cmd declared field (omega (arith, f .1)) (f .3) a
   turns-idle (continuation c k field) f a = record { receives = tt; tells = tt }
 
-  turns-over : (t : Transaction) (p : Packet) → Formed p → Asks n p → Turns max n time (whenOver max time t p)
+  turns-over : (t : Transaction) (p : Packet) → Formed p → Asks n p → Turns max n time (whenOver set time t p)
   unfolding whenOver
   turns-over t (initialization c cmd declared field) f a = turns-idle (initialization c cmd declared field) f a
   turns-over t (continuation c k field) f a = either (eqb c (t .channel)) _ _ (record { receives = tt; tells = tt }) (turns-idle (continuation c k field) f a)
 
-  turns-own : (t : Transaction) (p : Packet) → Runs max n time t → Formed p → Asks n p → Turns max n time (onOwn max time t p)
+  turns-own : (t : Transaction) (p : Packet) → Runs max n time t → Formed p → Asks n p → Turns max n time (onOwn set time t p)
   unfolding onOwn
   turns-own t (initialization c cmd declared field) r f a =
       either (eqb cmd (number INIT)) _ _ (turns-start c cmd declared field (omega (arith, f .1)) (f .3) a) (record { receives = tt; tells = tt })
@@ -122,11 +130,11 @@ module _ (max n time : ℕ) where
       (simp length-append (omega (arith, r .bytes, f .2))))
       (record { receives = tt; tells = tt })
 
-  turns-busy : (t : Transaction) (p : Packet) → Runs max n time t → Formed p → Asks n p → Turns max n time (whenBusy max time t p)
+  turns-busy : (t : Transaction) (p : Packet) → Runs max n time t → Formed p → Asks n p → Turns max n time (whenBusy set time t p)
   unfolding whenBusy
   turns-busy t p r f a = either (eqb (channelOf p) (t .channel)) _ _ (turns-own t p r f a) (record { receives = r; tells = tt })
 
-  pub turns : (r : Receiver) (p : Packet) → Receives max n time r → Formed p → Asks n p → Turns max n time (receive max time r p)
+  pub turns : (r : Receiver) (p : Packet) → Receives max n time r → Formed p → Asks n p → Turns max n time (receive set time r p)
   unfolding receive
   turns idle p k f a = turns-idle p f a
   turns (busy t) p k f a = either (leb (t .deadline) time) _ _ (turns-over t p f a) (turns-busy t p k f a)
@@ -141,8 +149,8 @@ asks-valid n (initialization c cmd declared field) =
     (λ e h. let k : (leb 1 c ≡ true) × (leb c n ≡ true) = pick-true (leb 1 c) (leb c n) h in inl (leb-true 1 c (k .0), leb-true c n (k .1)))
 asks-valid n (continuation c k field) = λ e. tt
 
-pub turns-valid : (d : Transport) (time : ℕ) (p : Packet) → Holds d time → Formed p → isValid (d .allocated) p ≡ true → Turns (d .settings .maximum) (d .allocated) time (receive (d .settings .maximum) time (d .receiver) p)
-turns-valid d time p k f v = turns (d .settings .maximum) (d .allocated) time (d .receiver) p (k .receiver) f (asks-valid (d .allocated) p v)
+pub turns-valid : (d : Transport) (time : ℕ) (p : Packet) → Holds d time → Formed p → isValid (d .allocated) p ≡ true → Turns (d .settings .maximum) (d .allocated) time (receive (d .settings) time (d .receiver) p)
+turns-valid d time p k f v = turns (d .settings) (d .allocated) time (d .receiver) p (k .receiver) f (asks-valid (d .allocated) p v)
 
 -- ---- a message that is whole is of the channel of the packet that made it so
 
@@ -151,36 +159,39 @@ IsOf c silent = Unit {0}
 IsOf c (fault e) = Unit {0}
 IsOf c (whole own cmd payload) = own ≡ c
 
-module _ (max time : ℕ) where
+module _ (set : Settings) (time : ℕ) where
   own-collect : (c : ℕ) (t : Transaction) (field : List ℕ) → t .channel ≡ c → IsOf c (collect t field .reception)
   unfolding collect
   own-collect c t field e = pick-both (λ (x : Turn). IsOf c (x .reception)) (ltb (length (t .collected ++ field)) (t .declared)) _ _ tt e
 
-  own-start : (c cmd declared : ℕ) (field : List ℕ) → IsOf c (start max time c cmd declared field .reception)
-  unfolding start
-  own-start c cmd declared field = pick-both (λ (x : Turn). IsOf c (x .reception)) (ltb max declared) _ _ tt (own-collect c _ field refl)
+  own-start : (c cmd declared : ℕ) (field : List ℕ) → IsOf c (start set time c cmd declared field .reception)
+  unfolding start startKnown
+  own-start c cmd declared field =
+      pick-both (λ (x : Turn). IsOf c (x .reception)) (knows set (commandOf cmd)) _ _
+      (pick-both (λ (x : Turn). IsOf c (x .reception)) (ltb (set .maximum) declared) _ _ tt (own-collect c _ field refl))
+      tt
 
-  own-idle : (p : Packet) → IsOf (channelOf p) (whenIdle max time p .reception)
+  own-idle : (p : Packet) → IsOf (channelOf p) (whenIdle set time p .reception)
   unfolding whenIdle
   own-idle (initialization c cmd declared field) = own-start c cmd declared field
   own-idle (continuation c k field) = tt
 
-  own-over : (t : Transaction) (p : Packet) → IsOf (channelOf p) (whenOver max time t p .reception)
+  own-over : (t : Transaction) (p : Packet) → IsOf (channelOf p) (whenOver set time t p .reception)
   unfolding whenOver
   own-over t (initialization c cmd declared field) = own-idle (initialization c cmd declared field)
   own-over t (continuation c k field) = pick-both (λ (x : Turn). IsOf c (x .reception)) (eqb c (t .channel)) _ _ tt (own-idle (continuation c k field))
 
-  own-own : (t : Transaction) (p : Packet) → channelOf p ≡ t .channel → IsOf (channelOf p) (onOwn max time t p .reception)
+  own-own : (t : Transaction) (p : Packet) → channelOf p ≡ t .channel → IsOf (channelOf p) (onOwn set time t p .reception)
   unfolding onOwn
   own-own t (initialization c cmd declared field) e = pick-both (λ (x : Turn). IsOf c (x .reception)) (eqb cmd (number INIT)) _ _ (own-start c cmd declared field) tt
   own-own t (continuation c k field) e = pick-both (λ (x : Turn). IsOf c (x .reception)) (eqb k (t .due)) _ _ (own-collect c _ field (sym e)) tt
 
-  own-busy : (t : Transaction) (p : Packet) → IsOf (channelOf p) (whenBusy max time t p .reception)
+  own-busy : (t : Transaction) (p : Packet) → IsOf (channelOf p) (whenBusy set time t p .reception)
   unfolding whenBusy
   own-busy t p =
       pick-known (λ (x : Turn). IsOf (channelOf p) (x .reception)) (eqb (channelOf p) (t .channel)) _ _ (λ e. own-own t p (eqb-true (channelOf p) (t .channel) e)) (λ e. tt)
 
-  pub own : (r : Receiver) (p : Packet) → IsOf (channelOf p) (receive max time r p .reception)
+  pub own : (r : Receiver) (p : Packet) → IsOf (channelOf p) (receive set time r p .reception)
   unfolding receive
   own idle p = own-idle p
   own (busy t) p = pick-both (λ (x : Turn). IsOf (channelOf p) (x .reception)) (leb (t .deadline) time) _ _ (own-over t p) (own-busy t p)
@@ -250,7 +261,7 @@ same-settle d time c (whole own cmd payload) = keeps-dispatch (λ (x : Transport
 pub same-settings : (d : Transport) (time : ℕ) (disabled : Bool) (p : Packet) → hear d time disabled p .state .settings ≡ d .settings
 same-settings d time disabled p =
     keeps-hear (λ (x : Transport). x .settings ≡ d .settings) d time disabled p refl
-    (λ v s. let t : Turn = receive (d .settings .maximum) time (d .receiver) p in same-settle (withReceiver d (t .receiver)) time (channelOf p) (t .reception))
+    (λ v s. let t : Turn = receive (d .settings) time (d .receiver) p in same-settle (withReceiver d (t .receiver)) time (channelOf p) (t .reception))
 
 -- ---- a packet
 
@@ -304,8 +315,8 @@ pub holds-hear : (d : Transport) (time : ℕ) (disabled : Bool) (p : Packet) →
 holds-hear d time disabled p k f =
     keeps-hear (λ (x : Transport). Holds x time) d time disabled p k
     (λ v s.
-    let t : Turn = receive (d .settings .maximum) time (d .receiver) p in
+    let t : Turn = receive (d .settings) time (d .receiver) p in
     let u : Turns (d .settings .maximum) (d .allocated) time t = turns-valid d time p k f v in
     holds-settle (withReceiver d (t .receiver)) time (channelOf p) (t .reception)
     (record { count = k .count; lock = k .lock; holder = k .holder; receiver = u .receives })
-    (not-against (d .lock) time disabled (channelOf p) s) (u .tells) (own (d .settings .maximum) time (d .receiver) p))
+    (not-against (d .lock) time disabled (channelOf p) s) (u .tells) (own (d .settings) time (d .receiver) p))

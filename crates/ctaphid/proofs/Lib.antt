@@ -19,6 +19,7 @@ pub mod WrongDelivery
 pub mod Histories
 pub mod Bounds
 pub mod Shut
+pub mod Unknown
 pub mod CarriedBounds
 pub mod InstancesBounds
 pub mod Sharp

@@ -3,15 +3,15 @@ use Prim.Native.Nat.{ℕ}
 use mathlib.Core.Path.{_≡_, refl, sym, ap, _∙_}
 use mathlib.Core.List.{List, [], _∷_}
 use mathlib.Core.Bool.{Bool}
-use lib.Dec.{ltb, eqb}
+use lib.Dec.{ltb, leb, eqb}
 use lib.ListN.{length, getD}
 use Rattle.ctaphid.specs.Choice.{pick, isIn}
-use Rattle.ctaphid.specs.Packets.{Packet, read}
+use Rattle.ctaphid.specs.Packets.{Packet, initialization, continuation, read}
 use Rattle.ctaphid.specs.Commands.{Command, MSG, CBOR, INIT, PING, CANCEL, ERROR, KEEPALIVE, WINK, LOCK, VENDOR, number, commandOf}
-use Rattle.ctaphid.specs.Errors.{InvalidCmd}
+use Rattle.ctaphid.specs.Errors.{InvalidCmd, InvalidSeq, ChannelBusy}
 use Rattle.ctaphid.specs.Settings.{Settings, listing, knows}
-use Rattle.ctaphid.specs.Receiver.{Reception, silent, fault, whole, Turn, channelOf, receive}
-use Rattle.ctaphid.specs.Transport.{Transport, fresh, Event, Answer, nothing, reply, request, Next, next, error, broadcast, isValid, isShut, obey, dispatch, onInit, onLock, withReceiver, settle, hear, step, answersOf, afterwards, run}
+use Rattle.ctaphid.specs.Receiver.{Transaction, Receiver, idle, busy, Reception, silent, fault, whole, Turn, turn, channelOf, startKnown, start, whenIdle, whenOver, onOwn, whenBusy, receive}
+use Rattle.ctaphid.specs.Transport.{Transport, fresh, Event, Answer, nothing, reply, request, Next, next, error, broadcast, isValid, isShut, obey, dispatch, onInit, onLock, withReceiver, settle, settled, hear, step, answersOf, afterwards, run}
 use Rattle.ctaphid.specs.Device.{Device, device, setUp, onWink, onMsg, onRequest, answered, deviceStep, OnlyMembersCount}
 use Rattle.ctaphid.specs.Demands.{standard, after, answer}
 use Rattle.ctaphid.proofs.Tests.{both-pick}
@@ -45,8 +45,9 @@ module _ (l : List ℕ) where
       both-pick Alike (eqb (length payload) 1) _ _ _ _ (λ e. both-pick Alike (ltb 10 (getD payload 0 0)) _ _ _ _ (λ b. refl) (λ b. refl)) (λ e. refl)
   obey-alike d time c (VENDOR n) payload = refl
 
-  module _ (d : Transport) (same : (n : ℕ) → isIn n l ≡ isIn n (d .settings .vendor)) where
-    knows-alike : (k : Command) → knows (listing l (d .settings)) k ≡ knows (d .settings) k
+  -- ---- what is known, and what a receiver makes of a packet
+  module _ (set : Settings) (same : (n : ℕ) → isIn n l ≡ isIn n (set .vendor)) (time : ℕ) where
+    knows-alike : (k : Command) → knows (listing l set) k ≡ knows set k
     unfolding knows
     knows-alike MSG = refl
     knows-alike CBOR = refl
@@ -59,10 +60,41 @@ module _ (l : List ℕ) where
     knows-alike LOCK = refl
     knows-alike (VENDOR n) = same n
 
+    start-alike : (c cmd n : ℕ) (field : List ℕ) → start (listing l set) time c cmd n field ≡ start set time c cmd n field
+    unfolding start
+    start-alike c cmd n field =
+        ap (λ (b : Bool). pick b (startKnown (set .maximum) time c cmd n field) (turn idle (fault InvalidCmd))) (knows-alike (commandOf cmd))
+
+    idle-alike : (p : Packet) → whenIdle (listing l set) time p ≡ whenIdle set time p
+    unfolding whenIdle
+    idle-alike (initialization c cmd n field) = start-alike c cmd n field
+    idle-alike (continuation c k field) = refl
+
+    over-alike : (t : Transaction) (p : Packet) → whenOver (listing l set) time t p ≡ whenOver set time t p
+    unfolding whenOver whenIdle
+    over-alike t (initialization c cmd n field) = idle-alike (initialization c cmd n field)
+    over-alike t (continuation c k field) = refl
+
+    own-alike : (t : Transaction) (p : Packet) → onOwn (listing l set) time t p ≡ onOwn set time t p
+    unfolding onOwn
+    own-alike t (initialization c cmd n field) = ap (λ (x : Turn). pick (eqb cmd (number INIT)) x (turn idle (fault InvalidSeq))) (start-alike c cmd n field)
+    own-alike t (continuation c k field) = refl
+
+    busy-alike : (t : Transaction) (p : Packet) → whenBusy (listing l set) time t p ≡ whenBusy set time t p
+    unfolding whenBusy
+    busy-alike t p = ap (λ (x : Turn). pick (eqb (channelOf p) (t .channel)) x (turn (busy t) (fault ChannelBusy))) (own-alike t p)
+
+    receive-alike : (r : Receiver) (p : Packet) → receive (listing l set) time r p ≡ receive set time r p
+    unfolding receive
+    receive-alike idle p = idle-alike p
+    receive-alike (busy t) p = λ i. pick (leb (t .deadline) time) (over-alike t p i) (busy-alike t p i)
+
+  -- ---- a packet
+  module _ (d : Transport) (same : (n : ℕ) → isIn n l ≡ isIn n (d .settings .vendor)) where
     dispatch-alike : (time c : ℕ) (k : Command) (payload : List ℕ) → dispatch (relisted d) time c k payload ≡ relistedNext (dispatch d time c k payload)
     unfolding dispatch
     dispatch-alike time c k payload =
-        ap (λ (b : Bool). pick b (obey (relisted d) time c k payload) (next (relisted d) (error c InvalidCmd))) (knows-alike k)
+        ap (λ (b : Bool). pick b (obey (relisted d) time c k payload) (next (relisted d) (error c InvalidCmd))) (knows-alike (d .settings) same time k)
         ∙ both-pick Alike (knows (d .settings) k) _ _ _ _ (λ e. obey-alike d time c k payload) (λ e. refl)
 
   settle-alike : (d : Transport) → ((n : ℕ) → isIn n l ≡ isIn n (d .settings .vendor)) → (time c : ℕ) (b : Reception) → settle (relisted d) time c b ≡ relistedNext (settle d time c b)
@@ -74,9 +106,12 @@ module _ (l : List ℕ) where
   pub hear-alike : (d : Transport) → ((n : ℕ) → isIn n l ≡ isIn n (d .settings .vendor)) → (time : ℕ) (disabled : Bool) (p : Packet) → hear (relisted d) time disabled p ≡ relistedNext (hear d time disabled p)
   unfolding hear
   hear-alike d same time disabled p =
-      let t : Turn = receive (d .settings .maximum) time (d .receiver) p in
+      let t : Turn = receive (d .settings) time (d .receiver) p in
       both-pick Alike (isValid (d .allocated) p) _ _ _ _
-      (λ v. both-pick Alike (isShut (d .lock) time disabled (channelOf p)) _ _ _ _ (λ e. refl) (λ e. settle-alike (withReceiver d (t .receiver)) same time (channelOf p) (t .reception)))
+      (λ v. both-pick Alike (isShut (d .lock) time disabled (channelOf p)) _ _ _ _ (λ e. refl)
+      (λ e.
+      ap (λ (x : Turn). settled (relisted d) time (channelOf p) x) (receive-alike (d .settings) same time (d .receiver) p)
+      ∙ settle-alike (withReceiver d (t .receiver)) same time (channelOf p) (t .reception)))
       (λ v. refl)
 
   -- ---- the device

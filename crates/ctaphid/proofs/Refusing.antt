@@ -51,8 +51,3 @@ none-refuse f ((test, number) ∷ rest) a p = simp (p .0) (none-refuse f rest a 
 pub either-way : {A : Type 0} (P : A → Type 0) (f : ℕ → A) (tests : List (Bool × ℕ)) (a : A) → ((n : ℕ) → P (f n)) → P a → P (refusing f tests a)
 either-way P f [] a refused p = p
 either-way P f ((test, number) ∷ rest) a refused p = pick-both P test (f number) _ (refused number) (either-way P f rest a refused p)
-
--- a test that is turned round
-pub not-true : (b : Bool) → not b ≡ false → b ≡ true
-not-true true e = refl
-not-true false e = absurd (true≢false e)

@@ -47,7 +47,7 @@ not-valid-low (continuation c k field) = tt
 hear-low : (d : Transport) (time : ℕ) (disabled : Bool) (p : Packet) → LowNext (hear d time disabled p)
 unfolding hear
 hear-low d time disabled p =
-    let t : Turn = receive (d .settings .maximum) time (d .receiver) p in
+    let t : Turn = receive (d .settings) time (d .receiver) p in
     pick-both LowNext (isValid (d .allocated) p) _ _
     (pick-both LowNext (isShut (d .lock) time disabled (channelOf p)) _ _ (omega arith) (settle-low (withReceiver d (t .receiver)) time (channelOf p) (t .reception)))
     (not-valid-low p)

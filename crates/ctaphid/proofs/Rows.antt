@@ -10,14 +10,14 @@ use Rattle.ctaphid.specs.Packets.{byte, channelIn, declaredIn, read, wri
 use Rattle.ctaphid.specs.Messages.{later, chunks, padded, fields, continuations, packets, splitWire}
 use Rattle.ctaphid.specs.Commands.{among, isVendor}
 use Rattle.ctaphid.specs.Settings.{knows}
-use Rattle.ctaphid.specs.Receiver.{collect, start, whenIdle, whenOver, onOwn, whenBusy, receive, isOn}
+use Rattle.ctaphid.specs.Receiver.{collect, startKnown, start, whenIdle, whenOver, onOwn, whenBusy, receive, isOn}
 use Rattle.ctaphid.specs.Transport.{isAllocated, isValid, isLockedBy, isLockedAgainst, isShut, nextChannel, onInit, lockFor, onLock, dispatch, settle, hear, obey}
 use Rattle.ctaphid.specs.Device.{onWink, onMsg, onRequest, answered}
 use Rattle.ctaphid.specs.Rows.{Rows, FurtherRows}
 use Rattle.ctaphid.proofs.Messages.{wire-length, wire-later}
 
 pub rows : Rows
-unfolding hear isShut isLockedAgainst isLockedBy isAllocated isValid nextChannel onInit lockFor onLock dispatch knows obey isVendor isIn settle receive whenBusy onOwn whenOver whenIdle start collect isOn read channelIn declaredIn among onWink onMsg onRequest answered pick written
+unfolding hear isShut isLockedAgainst isLockedBy isAllocated isValid nextChannel onInit lockFor onLock dispatch knows obey isVendor isIn settle receive whenBusy onOwn whenOver whenIdle start startKnown collect isOn read channelIn declaredIn among onWink onMsg onRequest answered pick written
 rows = record {
   a = refl;
   b = refl;
@@ -39,7 +39,7 @@ up-to-255 zero = omega arith
 up-to-255 (suc i) = omega arith
 
 pub further-rows : FurtherRows
-unfolding hear isShut isLockedAgainst isLockedBy isAllocated isValid nextChannel onInit lockFor onLock dispatch knows obey isVendor isIn settle receive whenBusy onOwn whenOver whenIdle start collect isOn read channelIn declaredIn among onWink onMsg onRequest answered pick packets fields chunks later padded continuations written splitWire
+unfolding hear isShut isLockedAgainst isLockedBy isAllocated isValid nextChannel onInit lockFor onLock dispatch knows obey isVendor isIn settle receive whenBusy onOwn whenOver whenIdle start startKnown collect isOn read channelIn declaredIn among onWink onMsg onRequest answered pick packets fields chunks later padded continuations written splitWire
 further-rows = record {
   commands = refl;
   read-commands = refl;
@@ -127,9 +127,21 @@ further-rows = record {
   due-late-locked = refl;
   due-anew = refl;
   no-requests = refl;
+  known-commands = (refl, refl);
+  unknown-at-once = refl;
+  unknown-locked = refl;
+  unknown-late = refl;
+  unknown-begins-none = (refl, refl);
+  unknown-inside = refl;
+  unknown-beside = refl;
+  unknown-long = (refl, refl);
+  unknown-others = refl;
+  unknown-turned-away = refl;
+  cancel-60 = refl;
+  msg-out-60 = refl;
+  unknown-brought = refl;
   vendor-out = refl;
   vendor-60 = refl;
-  vendor-late = refl;
   vendor-none = refl;
   vendor-nowhere = refl;
   msg-in = refl;

@@ -14,7 +14,7 @@ use Rattle.ctaphid.specs.Choice.{pick}
 use Rattle.ctaphid.specs.Packets.{Packet, continuation, channelIn, declaredIn, read}
 use Rattle.ctaphid.specs.Commands.{PING, among, isVendor}
 use Rattle.ctaphid.specs.Settings.{knows}
-use Rattle.ctaphid.specs.Receiver.{Transaction, idle, busy, silent, whole, Turn, turn, collect, start, whenIdle, receive, isOn}
+use Rattle.ctaphid.specs.Receiver.{Transaction, idle, busy, silent, whole, Turn, turn, collect, startKnown, start, whenIdle, receive, isOn}
 use Rattle.ctaphid.specs.Transport.{Transport, free, Event, nothing, reply, Next, isAllocated, isValid, isLockedAgainst, isShut, nextChannel, onInit, dispatch, settle, serve, hear, step, obey}
 use Rattle.ctaphid.specs.Demands.{standard, Taken, latest, after, answer, Begun, Since, TransactionsEndWithin}
 use Rattle.ctaphid.proofs.Steps.{grown, receive-more, receive-last, let-through, served}
@@ -31,8 +31,11 @@ abbrev packet : ℕ → Packet
 packet n = continuation 1 n (replicate 59 0)
 
 -- a PING of 7,609 bytes on channel 1 begins at 5, and n continuations follow
+abbrev opens : Event
+opens = at 5 (channel 1 ++ (0x81 ∷ 0x1d ∷ 0xb9 ∷ []))
+
 abbrev pub longest : ℕ → List Event
-longest zero = at 5 (channel 1 ++ (0x81 ∷ 0x1d ∷ 0xb9 ∷ [])) ∷ two
+longest zero = opens ∷ two
 longest (suc n) = numbered n ∷ longest n
 
 longest-latest : (n : ℕ) → latest (longest n) ≡ 5 + 99 * n
@@ -41,7 +44,7 @@ longest-latest (suc n) = refl
 
 pub longest-taken : (n : ℕ) → n ≤ 128 → Taken (longest n)
 unfolding allBytes pick
-longest-taken zero h = (proper (at 5 (channel 1 ++ (0x81 ∷ 0x1d ∷ 0xb9 ∷ []))) refl refl (omega arith), omega arith, two-taken)
+longest-taken zero h = (proper opens refl refl (omega arith), omega arith, two-taken)
 longest-taken (suc n) h = (
   proper (numbered n) refl (simp (lt-ltb n 0x100 (omega arith))) (omega arith),
   omega (arith, longest-latest n),
@@ -84,7 +87,7 @@ module _ (n : ℕ) (h : n ≤ 127) where
   goes-on more =
       let t : Turn = turn (busy (grown (begun n) (time n) (replicate 59 0))) silent in
       ap (λ (x : Next Transport). x .state)
-      (let-in ∙ served (midway n) (time n) (packet n) t (receive-more 7609 (time n) (begun n) (omega arith) (replicate 59 0) (omega (arith, bytes-length n))))
+      (let-in ∙ served (midway n) (time n) (packet n) t (receive-more settings (time n) (begun n) (omega arith) (replicate 59 0) (omega (arith, bytes-length n))))
       ∙ (λ i. record {
         settings = settings;
         allocated = 2;
@@ -94,7 +97,7 @@ module _ (n : ℕ) (h : n ≤ 127) where
 
 -- two channels are allocated, and its first packet begins it
 begins : after standard settings (longest 0) ≡ midway 0
-unfolding read channelIn declaredIn hear isShut settle dispatch knows obey isVendor among onInit nextChannel isAllocated isValid isLockedAgainst receive whenIdle start collect pick
+unfolding read channelIn declaredIn hear isShut settle dispatch knows obey isVendor among onInit nextChannel isAllocated isValid isLockedAgainst receive whenIdle start startKnown collect pick
 begins = refl
 
 longest-after : (n : ℕ) → n ≤ 127 → after standard settings (longest n) ≡ midway n
@@ -120,27 +123,27 @@ longest-whole =
     let t : Turn = turn idle (whole 1 1 (take 7609 (bytes 127 ++ replicate 59 0))) in
     ap (λ (d : Transport). step d (numbered 127) .answer) (longest-after 127 (omega arith))
     ∙ (ap (λ (x : Next Transport). x .answer)
-    (let-in 127 (omega arith) ∙ served (midway 127) (time 127) (packet 127) t (receive-last 7609 (time 127) (begun 127) (omega arith) (replicate 59 0) (omega (arith, bytes-length 127))))
+    (let-in 127 (omega arith) ∙ served (midway 127) (time 127) (packet 127) t (receive-last settings (time 127) (begun 127) (omega arith) (replicate 59 0) (omega (arith, bytes-length 127))))
     ∙ ap (reply 1 PING) all)
 
 -- its first packet is answered by nothing
-begins-silent : answer standard settings two (at 5 (channel 1 ++ (0x81 ∷ 0x1d ∷ 0xb9 ∷ []))) ≡ nothing
-unfolding read channelIn declaredIn hear isShut settle dispatch knows obey isVendor among onInit nextChannel isAllocated isValid isLockedAgainst receive whenIdle start collect pick
+begins-silent : answer standard settings two opens ≡ nothing
+unfolding read channelIn declaredIn hear isShut settle dispatch knows obey isVendor among onInit nextChannel isAllocated isValid isLockedAgainst receive whenIdle start startKnown collect pick
 begins-silent = refl
 
 -- and so it began at 5, and at no other time
-pub longest-begun : (n : ℕ) → n ≤ 128 → Begun standard settings 1 (longest n) 5
-longest-begun zero h = inl (omega arith, refl, begins-silent, refl)
+pub longest-begun : (n : ℕ) → n ≤ 128 → Begun standard settings (longest n) opens
+longest-begun zero h = inl (omega arith, begins-silent, refl)
 longest-begun (suc n) h = inr ((λ f q. omega (arith, f)), longest-begun n (omega arith))
 
-longest-start : (n t : ℕ) → n ≤ 128 → Begun standard settings 1 (longest n) t → t ≡ 5
-longest-start zero t h (inl b) = sym (b .3)
-longest-start zero t h (inr b) = absurd (b .0 (omega arith) begins-silent)
-longest-start (suc n) t h (inl b) = absurd (omega (arith, b .0))
-longest-start (suc n) t h (inr b) = longest-start n t (omega arith) (b .1)
+longest-start : (n : ℕ) (first : Event) → n ≤ 128 → Begun standard settings (longest n) first → first .time ≡ 5
+longest-start zero first h (inl b) = sym (ap (λ (e : Event). e .time) (b .2))
+longest-start zero first h (inr b) = absurd (b .0 (omega arith) begins-silent)
+longest-start (suc n) first h (inl b) = absurd (omega (arith, b .0))
+longest-start (suc n) first h (inr b) = longest-start n first (omega arith) (b .1)
 
 -- so no smaller bound holds
 pub sharp : (bound : ℕ) → bound ≤ 12672 → TransactionsEndWithin bound standard → ⊥
 sharp bound small ends =
     let s : Since bound standard settings 1 (longest 127) 12677 = ends settings permitted (longest 127) (longest-taken 127 (omega arith)) 12677 (omega (arith, longest-latest 127)) 1 longest-on in
-    omega (arith, s .within, longest-start 127 (s .start) (omega arith) (s .begun))
+    omega (arith, s .within, longest-start 127 (s .first) (omega arith) (s .begun))

@@ -12,7 +12,8 @@ use Rattle.ctaphid.specs.Choice.{pick}
 use Rattle.ctaphid.specs.Packets.{Packet, initialization, continuation, read}
 use Rattle.ctaphid.specs.Commands.{Command, MSG, CBOR, INIT, PING, CANCEL, ERROR, KEEPALIVE, WINK, LOCK, commandOf, VENDOR}
 use Rattle.ctaphid.specs.Errors.{Error, InvalidCmd, InvalidPar, InvalidLen, InvalidSeq, MsgTimeout, InvalidChannel, code}
-use Rattle.ctaphid.specs.Receiver.{Transaction, Receiver, idle, busy, Turn, channelOf, collect, start, whenIdle, whenOver, onOwn, whenBusy, receive, isOn}
+use Rattle.ctaphid.specs.Settings.{Settings}
+use Rattle.ctaphid.specs.Receiver.{Transaction, Receiver, idle, busy, Turn, channelOf, collect, startKnown, start, whenIdle, whenOver, onOwn, whenBusy, receive, isOn}
 use Rattle.ctaphid.specs.Transport.{Lock, Transport, Answer, nothing, reply, request, Next, error, notValid, isLocked, isLockedBy, isLockedAgainst, isShut, onInit, onLock, dispatch, settle, settled, hear, withReceiver, obey}
 use Rattle.ctaphid.specs.Demands.{AnyDevice, standard, after, on, TransactionsEnd, LocksEnd, busyOn, Against, Honest, NoneShutOut}
 use Rattle.ctaphid.proofs.Tests.{pick-true, pick-both, pick-known}
@@ -64,7 +65,7 @@ dispatch-fine : (d : Transport) (time c : ℕ) (x : Command) (payload : List ℕ
 unfolding dispatch
 dispatch-fine d time c x payload = fine _ _ _ (obey-fine d time c x payload) (other-code c InvalidCmd (λ z. omega arith))
 
-module _ (d : Transport) (time c max : ℕ) where
+module _ (d : Transport) (time c : ℕ) (set : Settings) where
   abbrev Calm : Turn → Type 0
   Calm t = Fine (settled d time c t)
 
@@ -77,21 +78,22 @@ module _ (d : Transport) (time c max : ℕ) where
       calm _ _ _ (other-command nothing (λ z. omega arith))
       (dispatch-fine (withReceiver d idle) time (t .channel) (commandOf (t .command)) (take (t .declared) (t .collected ++ field)))
 
-  start-calm : (own cmd n : ℕ) (field : List ℕ) → Calm (start max time own cmd n field)
-  unfolding start settle
-  start-calm own cmd n field = calm _ _ _ (other-code c InvalidLen (λ z. omega arith)) (collect-calm _ field)
+  start-calm : (own cmd n : ℕ) (field : List ℕ) → Calm (start set time own cmd n field)
+  unfolding start startKnown settle
+  start-calm own cmd n field =
+      calm _ _ _ (calm _ _ _ (other-code c InvalidLen (λ z. omega arith)) (collect-calm _ field)) (other-code c InvalidCmd (λ z. omega arith))
 
-  idle-calm : (p : Packet) → Calm (whenIdle max time p)
+  idle-calm : (p : Packet) → Calm (whenIdle set time p)
   unfolding whenIdle settle
   idle-calm (initialization own cmd n field) = start-calm own cmd n field
   idle-calm (continuation own k field) = other-command nothing (λ z. omega arith)
 
-  over-calm : (t : Transaction) (p : Packet) → Calm (whenOver max time t p)
+  over-calm : (t : Transaction) (p : Packet) → Calm (whenOver set time t p)
   unfolding whenOver settle
   over-calm t (initialization own cmd n field) = idle-calm (initialization own cmd n field)
   over-calm t (continuation own k field) = calm _ _ _ (other-code c MsgTimeout (λ z. omega arith)) (idle-calm (continuation own k field))
 
-  own-calm : (t : Transaction) (p : Packet) → Calm (onOwn max time t p)
+  own-calm : (t : Transaction) (p : Packet) → Calm (onOwn set time t p)
   unfolding onOwn settle
   own-calm t (initialization own cmd n field) = calm _ _ _ (start-calm own cmd n field) (other-code c InvalidSeq (λ z. omega arith))
   own-calm t (continuation own k field) = calm _ _ _ (collect-calm _ field) (other-code c InvalidSeq (λ z. omega arith))
@@ -104,14 +106,14 @@ record Busy (r : Receiver) (c time : ℕ) : Type 0 where
   another : holder ≡ c → ⊥
   live : isOn r holder time ≡ true
 
-busy-or-calm : (d : Transport) (time max : ℕ) (r : Receiver) (p : Packet) → Busy r (channelOf p) time ⊎ Calm d time (channelOf p) max (receive max time r p)
+busy-or-calm : (d : Transport) (time : ℕ) (set : Settings) (r : Receiver) (p : Packet) → Busy r (channelOf p) time ⊎ Calm d time (channelOf p) set (receive set time r p)
 unfolding receive whenBusy isOn pick
-busy-or-calm d time max idle p = inr (idle-calm d time (channelOf p) max p)
-busy-or-calm d time max (busy t) p =
-    pick-known (λ (x : Turn). Busy (busy t) (channelOf p) time ⊎ Calm d time (channelOf p) max x) (leb (t .deadline) time) _ _
-    (λ e. inr (over-calm d time (channelOf p) max t p))
-    (λ e. pick-known (λ (x : Turn). Busy (busy t) (channelOf p) time ⊎ Calm d time (channelOf p) max x) (eqb (channelOf p) (t .channel)) _ _
-    (λ o. inr (own-calm d time (channelOf p) max t p))
+busy-or-calm d time set idle p = inr (idle-calm d time (channelOf p) set p)
+busy-or-calm d time set (busy t) p =
+    pick-known (λ (x : Turn). Busy (busy t) (channelOf p) time ⊎ Calm d time (channelOf p) set x) (leb (t .deadline) time) _ _
+    (λ e. inr (over-calm d time (channelOf p) set t p))
+    (λ e. pick-known (λ (x : Turn). Busy (busy t) (channelOf p) time ⊎ Calm d time (channelOf p) set x) (eqb (channelOf p) (t .channel)) _ _
+    (λ o. inr (own-calm d time (channelOf p) set t p))
     (λ o. inl (record {
       holder = t .channel;
       another = λ q. eqb-false (channelOf p) (t .channel) o (sym q);
@@ -146,7 +148,7 @@ hear-honest d time p =
     (λ s q. ⊎-elim
     (λ b. record { holder = b .holder; another = b .another; holds = inl (b .live) })
     (λ f. absurd (f (channelOf p) q))
-    (busy-or-calm d time (d .settings .maximum) (d .receiver) p)))
+    (busy-or-calm d time (d .settings) (d .receiver) p)))
     (λ q. absurd (unknown p q))
   where
     unknown : (q : Packet) → notValid q ≡ busyOn (channelOf q) → ⊥

@@ -34,24 +34,24 @@ grown t time field =
       deadline = time + timeout;
     }
 
-module _ (max time : ℕ) (t : Transaction) (live : time < t .deadline) where
-  pub receive-other : (p : Packet) → (channelOf p ≡ t .channel → ⊥) → receive max time (busy t) p ≡ turn (busy t) (fault ChannelBusy)
+module _ (set : Settings) (time : ℕ) (t : Transaction) (live : time < t .deadline) where
+  pub receive-other : (p : Packet) → (channelOf p ≡ t .channel → ⊥) → receive set time (busy t) p ≡ turn (busy t) (fault ChannelBusy)
   unfolding receive whenBusy pick
   receive-other p h = simp (lt-leb _ _ live, ne-eqb _ _ h)
 
-  pub receive-more : (field : List ℕ) → length (t .collected ++ field) < t .declared → receive max time (busy t) (continuation (t .channel) (t .due) field) ≡ turn (busy (grown t time field)) silent
+  pub receive-more : (field : List ℕ) → length (t .collected ++ field) < t .declared → receive set time (busy t) (continuation (t .channel) (t .due) field) ≡ turn (busy (grown t time field)) silent
   unfolding receive whenBusy onOwn collect pick
   receive-more field h = simp (lt-leb _ _ live, eq-eqb (t .channel) (t .channel) refl, eq-eqb (t .due) (t .due) refl, lt-ltb _ _ h)
 
-  pub receive-last : (field : List ℕ) → t .declared ≤ length (t .collected ++ field) → receive max time (busy t) (continuation (t .channel) (t .due) field) ≡ turn idle (whole (t .channel) (t .command) (take (t .declared) (t .collected ++ field)))
+  pub receive-last : (field : List ℕ) → t .declared ≤ length (t .collected ++ field) → receive set time (busy t) (continuation (t .channel) (t .due) field) ≡ turn idle (whole (t .channel) (t .command) (take (t .declared) (t .collected ++ field)))
   unfolding receive whenBusy onOwn collect pick
   receive-last field h = simp (lt-leb _ _ live, eq-eqb (t .channel) (t .channel) refl, eq-eqb (t .due) (t .due) refl, le-ltb _ _ h)
 
 -- to a first packet a receiver with no live transaction is idle
-pub receive-free : (max time : ℕ) (r : Receiver) (c cmd n : ℕ) (field : List ℕ) → ((o : ℕ) → isOn r o time ≡ false) → receive max time r (initialization c cmd n field) ≡ start max time c cmd n field
+pub receive-free : (set : Settings) (time : ℕ) (r : Receiver) (c cmd n : ℕ) (field : List ℕ) → ((o : ℕ) → isOn r o time ≡ false) → receive set time r (initialization c cmd n field) ≡ start set time c cmd n field
 unfolding receive isOn whenOver whenIdle pick
-receive-free max time idle c cmd n field h = refl
-receive-free max time (busy t) c cmd n field h =
+receive-free set time idle c cmd n field h = refl
+receive-free set time (busy t) c cmd n field h =
     simp (le-leb _ _ (ltb-false time (t .deadline) (simp (eq-eqb (t .channel) (t .channel) refl) at (h (t .channel)))))
 
 -- ---- channels and locks
@@ -88,7 +88,7 @@ pub let-through : (d : Transport) (time : ℕ) (p : Packet) → isValid (d .allo
 unfolding isShut pick
 let-through d time p v u = hear-served d time false p v u
 
-pub served : (d : Transport) (time : ℕ) (p : Packet) (t : Turn) → receive (d .settings .maximum) time (d .receiver) p ≡ t → serve d time p ≡ settled d time (channelOf p) t
+pub served : (d : Transport) (time : ℕ) (p : Packet) (t : Turn) → receive (d .settings) time (d .receiver) p ≡ t → serve d time p ≡ settled d time (channelOf p) t
 served d time p t e = ap (λ (x : Turn). settled d time (channelOf p) x) e
 
 -- a message that is handed out, and whose number is the vendor's if it is one of the vendor's
@@ -105,6 +105,15 @@ handed set permitted aMsg a = tt
 handed set permitted aWink a = tt
 handed set permitted aCbor a = tt
 handed set permitted (aVendor n) a = let range = permitted .vendor n a in (a, is-vendor n (range .0) (range .1))
+
+-- its command is one that the device knows
+pub handed-known : (set : Settings) (m : Message) → Handed set m → knows set (commandOf (numberOf m)) ≡ true
+unfolding isVendor knows among pick
+handed-known set aPing a = refl
+handed-known set aMsg a = refl
+handed-known set aWink a = refl
+handed-known set aCbor a = refl
+handed-known set (aVendor n) a = ap (knows set) (sym (vendor-read n (a .1))) ∙ a .0
 
 vendor-dispatched : (d : Transport) (time c n : ℕ) (payload : List ℕ) → Handed (d .settings) (aVendor n) → dispatch d time c (commandOf n) payload ≡ next d (request c (VENDOR n) payload)
 unfolding dispatch knows obey pick
@@ -133,7 +142,7 @@ other-same d time disabled p t r live h =
     pick-both (λ (n : Next Transport). Same d n) _ _ _
     (pick-both (λ (n : Next Transport). Same d n) _ _ _ (record { state = refl; hushed = error-hands (channelOf p) ChannelBusy })
     (subst (λ (n : Next Transport). Same d n)
-    (sym (served d time p (turn (busy t) (fault ChannelBusy)) (simp r (receive-other (d .settings .maximum) time t live p h))))
+    (sym (served d time p (turn (busy t) (fault ChannelBusy)) (simp r (receive-other (d .settings) time t live p h))))
     (record { state = ap (λ (x : Receiver). withReceiver d x) (sym r); hushed = error-hands (channelOf p) ChannelBusy })))
     (invalid p)
   where

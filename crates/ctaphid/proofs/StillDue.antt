@@ -103,7 +103,7 @@ module _ (d : Transport) (t : Transaction) (now : ℕ) (k : Midst d t now) (e : 
     reads : read (e .packet) ≡ p
     reads = ap read (o .packet) ∙ read-written p (omega (arith, k .small), omega (arith, k .bytes, k .below, k .large), size)
 
-    own-step : (x : Turn) → receive (d .settings .maximum) (e .time) (busy t) p ≡ x → step d e ≡ settled d (e .time) (t .channel) x
+    own-step : (x : Turn) → receive (d .settings) (e .time) (busy t) p ≡ x → step d e ≡ settled d (e .time) (t .channel) x
     own-step x q =
         simp (o .enabled, reads)
         (let-through d (e .time) p (allocated-valid (d .allocated) p (k .small) (k .allocated)) (still-unlocked (d .lock) (t .channel) now (e .time) onward (k .unlocked))
@@ -111,7 +111,7 @@ module _ (d : Transport) (t : Transaction) (now : ℕ) (k : Midst d t now) (e : 
 
     -- the last
     last-step : stillDue (busy t) ≡ 1 → step d e ≡ settle (withReceiver d idle) (e .time) (t .channel) (whole (t .channel) (t .command) (take (t .declared) (t .collected ++ field)))
-    last-step h = own-step _ (receive-last (d .settings .maximum) (e .time) t (o .live) field (omega (arith, sum, h, k .bytes)))
+    last-step h = own-step _ (receive-last (d .settings) (e .time) t (o .live) field (omega (arith, sum, h, k .bytes)))
 
     -- one that is not the last
     due-step : 1 < stillDue (busy t) → Goes d t e field
@@ -119,7 +119,7 @@ module _ (d : Transport) (t : Transaction) (now : ℕ) (k : Midst d t now) (e : 
     due-step h =
         let more : length (t .collected ++ field) < t .declared = omega (arith, sum, h) in
         record {
-          stepped = own-step _ (receive-more (d .settings .maximum) (e .time) t (o .live) field more);
+          stepped = own-step _ (receive-more (d .settings) (e .time) t (o .live) field more);
           one-less = omega (arith, h);
           midst = record {
             busied = refl;

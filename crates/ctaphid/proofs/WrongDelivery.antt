@@ -9,7 +9,7 @@ use Rattle.ctaphid.specs.Choice.{pick, isIn}
 use Rattle.ctaphid.specs.Packets.{Packet, continuation, byte, channelIn, declaredIn, read}
 use Rattle.ctaphid.specs.Commands.{CBOR, VENDOR, number, isVendor, among}
 use Rattle.ctaphid.specs.Settings.{knows}
-use Rattle.ctaphid.specs.Receiver.{collect, start, whenIdle, whenOver, onOwn, whenBusy, receive}
+use Rattle.ctaphid.specs.Receiver.{collect, startKnown, start, whenIdle, whenOver, onOwn, whenBusy, receive}
 use Rattle.ctaphid.specs.Transport.{Event, Answer, nothing, reply, request, isAllocated, isValid, isLockedAgainst, isShut, nextChannel, onInit, dispatch, settle, hear, obey}
 use Rattle.ctaphid.specs.Demands.{AnyDevice, First, after, answer, Ends, Delivery}
 use Rattle.ctaphid.specs.Wrong.{Refusing, busyAlways, Frozen, forgetful, Nodding, eagerly, eager, NoddingAtVendor, hushed, eagerlyAtVendor, eagerAtVendor}
@@ -81,7 +81,7 @@ eager-caught = nodding-caught eager eager-nods
 
 -- it hands out at the first packet
 pub eager-early : answer eager settings two (at 5 (begins 16 7)) ≡ request 1 CBOR (replicate 57 7)
-unfolding read channelIn declaredIn hear isShut settle dispatch knows obey isVendor onInit nextChannel isAllocated isValid isLockedAgainst receive whenIdle start collect among pick
+unfolding read channelIn declaredIn hear isShut settle dispatch knows obey isVendor onInit nextChannel isAllocated isValid isLockedAgainst receive whenIdle start startKnown collect among pick
 eager-early = refl
 
 -- ---- hands a vendor message out at no packet but a first one
@@ -108,9 +108,9 @@ eager-at-vendor-caught = nodding-at-vendor-caught eagerAtVendor eager-at-vendor-
 
 -- it hands the vendor's out at the first packet, and all others as it must
 pub eager-at-vendor-early : answer eagerAtVendor (allowing (127 ∷ [])) two (at 5 (begins 127 7)) ≡ request 1 (VENDOR 127) (replicate 57 7)
-unfolding read channelIn declaredIn hear isShut settle dispatch knows obey isVendor isIn onInit nextChannel isAllocated isValid isLockedAgainst receive whenIdle start collect among pick
+unfolding read channelIn declaredIn hear isShut settle dispatch knows obey isVendor isIn onInit nextChannel isAllocated isValid isLockedAgainst receive whenIdle start startKnown collect among pick
 eager-at-vendor-early = refl
 
 pub eager-at-vendor-else : answer eagerAtVendor settings (at 5 (begins 16 7) ∷ two) (at 104 ends) ≡ request 1 CBOR (message 7)
-unfolding read channelIn declaredIn hear isShut settle dispatch knows obey isVendor isIn onInit nextChannel isAllocated isValid isLockedAgainst receive whenIdle whenOver whenBusy onOwn start collect among pick
+unfolding read channelIn declaredIn hear isShut settle dispatch knows obey isVendor isIn onInit nextChannel isAllocated isValid isLockedAgainst receive whenIdle whenOver whenBusy onOwn start startKnown collect among pick
 eager-at-vendor-else = refl

@@ -1,5 +1,5 @@
 -- Demand 3: what is asked of a device, whatever it is made of. Numbers are bare here, so that they can't shift with the device's. Assumes nothing.
-use Prim.Native.Nat.{ℕ, _+_, _*_, _≤_, _<_}
+use Prim.Native.Nat.{ℕ, _+_, _-_, _*_, _≤_, _<_}
 use mathlib.Core.Path.{_≡_}
 use mathlib.Core.List.{List, [], _∷_}
 use mathlib.Core.Bool.{Bool, true, false}
@@ -154,18 +154,19 @@ Delivery D =
 
 -- ---- no one is shut out for long
 
--- the latest first packet that the device answered by nothing was channel c's, and came at t0: by it the transaction began that is on
-abbrev pub Begun : AnyDevice → Settings → (channel : ℕ) → List Event → (t0 : ℕ) → Type 0
-Begun D set c [] t0 = ⊥
-Begun D set c (e ∷ past) t0 =
-    (First e × (on e ≡ c) × (answer D set past e ≡ nothing) × (e .time ≡ t0))
-    ⊎ ((First e → answer D set past e ≡ nothing → ⊥) × Begun D set c past t0)
+-- the latest first packet that the device answered by nothing: by it the transaction began that is on
+abbrev pub Begun : AnyDevice → Settings → List Event → (first : Event) → Type 0
+Begun D set [] first = ⊥
+Begun D set (e ∷ past) first =
+    (First e × (answer D set past e ≡ nothing) × (e ≡ first))
+    ⊎ ((First e → answer D set past e ≡ nothing → ⊥) × Begun D set past first)
 
--- it began less than `bound` ms ago
+-- it is channel c's, and began less than `bound` ms ago
 pub record Since (bound : ℕ) (D : AnyDevice) (set : Settings) (c : ℕ) (past : List Event) (time : ℕ) : Type 0 where
-  pub start : ℕ
-  pub begun : Begun D set c past start
-  pub within : time < start + bound
+  pub first : Event
+  pub begun : Begun D set past first
+  pub channel : on first ≡ c
+  pub within : time < first .time + bound
 
 abbrev pub TransactionsEndWithin : (bound : ℕ) → AnyDevice → Type 0
 TransactionsEndWithin bound D =
@@ -233,6 +234,27 @@ abbrev pub NoneShutOut : AnyDevice → Type 0
 NoneShutOut D =
     (set : Settings) → Permitted set → (past : List Event) (e : Event) → Taken (e ∷ past) → e .disabled ≡ false
     → answer D set past e ≡ busyOn (on e) → HeldBy D set past (on e) (e .time)
+
+-- ---- what an unknown command brings about
+
+-- a first packet's command is PING, MSG, LOCK, INIT, WINK, CBOR or CANCEL, or a vendor command on the list
+abbrev pub IsKnown : Settings → Event → Type 0
+IsKnown set e = isIn (byte (e .packet) 4 - 0x80) (1 ∷ 3 ∷ 4 ∷ 6 ∷ 8 ∷ 16 ∷ 17 ∷ set .vendor) ≡ true
+
+-- it is told so at its first packet, whatever else is: no other command gets nothing there (DIFFERENCES 21)
+abbrev pub UnknownToldAtOnce : AnyDevice → Type 0
+UnknownToldAtOnce D =
+    (set : Settings) → Permitted set → (past : List Event) (e : Event) → Taken (e ∷ past) → First e → answer D set past e ≡ nothing → IsKnown set e
+
+-- and so it never makes another channel busy: `NoneShutOut`, and the transaction that turns someone away began with a known command
+pub record HeldByKnown (D : AnyDevice) (set : Settings) (past : List Event) (c time : ℕ) : Type 0 where
+  pub held : HeldBy D set past c time
+  pub known : (first : Event) → Begun D set past first → IsKnown set first
+
+abbrev pub NoneShutOutByUnknown : AnyDevice → Type 0
+NoneShutOutByUnknown D =
+    (set : Settings) → Permitted set → (past : List Event) (e : Event) → Taken (e ∷ past) → e .disabled ≡ false
+    → answer D set past e ≡ busyOn (on e) → HeldByKnown D set past (on e) (e .time)
 
 -- ---- demand 3, all of it
 pub record GivesShare (D : AnyDevice) : Type 0 where

@@ -7,9 +7,10 @@ use lib.Dec.{ltb, leb, eqb}
 use Rattle.ctaphid.specs.Choice.{pick}
 use Rattle.ctaphid.specs.Packets.{Packet, initialization, continuation}
 use Rattle.ctaphid.specs.Messages.{count}
-use Rattle.ctaphid.specs.Commands.{INIT, number}
-use Rattle.ctaphid.specs.Errors.{Error, InvalidLen, InvalidSeq, MsgTimeout, ChannelBusy}
+use Rattle.ctaphid.specs.Commands.{INIT, number, commandOf}
+use Rattle.ctaphid.specs.Errors.{Error, InvalidCmd, InvalidLen, InvalidSeq, MsgTimeout, ChannelBusy}
 use Rattle.ctaphid.specs.Limits.{timeout}
+use Rattle.ctaphid.specs.Settings.{Settings, knows}
 
 -- what its initialization packet said, the bytes collected so far, the sequence number that is due, and the time at which it is over
 pub record Transaction : Type 0 where
@@ -61,31 +62,36 @@ collect t field =
     (λ payload. turn idle (whole (t .channel) (t .command) payload))
 
 -- §11.2.4: an initialization packet starts a transaction, and the first sequence number is 0. A declared length above the maximum is an error (DIFFERENCES 6)
-unfoldable pub start : (maximum time channel command declared : ℕ) → List ℕ → Turn
-start max time c cmd n field =
+unfoldable pub startKnown : (maximum time channel command declared : ℕ) → List ℕ → Turn
+startKnown max time c cmd n field =
     pick (ltb max n)
     (turn idle (fault InvalidLen))
     (collect (record { channel = c; command = cmd; declared = n; collected = []; due = 0; deadline = time + timeout }) field)
 
+-- §11.2.9.1.6: but a command that the device doesn't know is told so, at once and whatever its length, and starts none (DIFFERENCES 21)
+unfoldable pub start : Settings → (time channel command declared : ℕ) → List ℕ → Turn
+start set time c cmd n field =
+    pick (knows set (commandOf cmd)) (startKnown (set .maximum) time c cmd n field) (turn idle (fault InvalidCmd))
+
 -- §11.2.5.4: a continuation packet with no initialization packet before it is ignored
-unfoldable pub whenIdle : (maximum time : ℕ) → Packet → Turn
-whenIdle max time (initialization c cmd n field) = start max time c cmd n field
-whenIdle max time (continuation c k field) = turn idle silent
+unfoldable pub whenIdle : Settings → (time : ℕ) → Packet → Turn
+whenIdle set time (initialization c cmd n field) = start set time c cmd n field
+whenIdle set time (continuation c k field) = turn idle silent
 
 -- §11.2.5.2: the time is over, the transaction with it, and the device is idle again. That its channel's continuation packet is told so, if it is the
 -- first to come, is DIFFERENCES 7
-unfoldable pub whenOver : (maximum time : ℕ) → Transaction → Packet → Turn
-whenOver max time t (initialization c cmd n field) = whenIdle max time (initialization c cmd n field)
-whenOver max time t (continuation c k field) =
-    pick (eqb c (t .channel)) (turn idle (fault MsgTimeout)) (whenIdle max time (continuation c k field))
+unfoldable pub whenOver : Settings → (time : ℕ) → Transaction → Packet → Turn
+whenOver set time t (initialization c cmd n field) = whenIdle set time (initialization c cmd n field)
+whenOver set time t (continuation c k field) =
+    pick (eqb c (t .channel)) (turn idle (fault MsgTimeout)) (whenIdle set time (continuation c k field))
 
 -- a packet on the transaction's own channel. §11.2.5.3: INIT aborts the transaction and starts anew. Any other initialization packet aborts it with an error
 -- (DIFFERENCES 8, and 9 for CANCEL). §11.2.5.4: continuation packets come in ascending order; another number aborts with an error (DIFFERENCES 10), and the
 -- right one gives the transaction its time anew (DIFFERENCES 2)
-unfoldable pub onOwn : (maximum time : ℕ) → Transaction → Packet → Turn
-onOwn max time t (initialization c cmd n field) =
-    pick (eqb cmd (number INIT)) (start max time c cmd n field) (turn idle (fault InvalidSeq))
-onOwn max time t (continuation c k field) =
+unfoldable pub onOwn : Settings → (time : ℕ) → Transaction → Packet → Turn
+onOwn set time t (initialization c cmd n field) =
+    pick (eqb cmd (number INIT)) (start set time c cmd n field) (turn idle (fault InvalidSeq))
+onOwn set time t (continuation c k field) =
     pick (eqb k (t .due))
     (collect (record {
       channel = t .channel;
@@ -99,14 +105,14 @@ onOwn max time t (continuation c k field) =
 
 -- §11.2.5.1: while a transaction is on, any other channel is told that the device is busy, and nothing alters. To continuation packets, CANCEL and INIT too:
 -- DIFFERENCES 11, 9 and 16
-unfoldable pub whenBusy : (maximum time : ℕ) → Transaction → Packet → Turn
-whenBusy max time t p =
-    pick (eqb (channelOf p) (t .channel)) (onOwn max time t p) (turn (busy t) (fault ChannelBusy))
+unfoldable pub whenBusy : Settings → (time : ℕ) → Transaction → Packet → Turn
+whenBusy set time t p =
+    pick (eqb (channelOf p) (t .channel)) (onOwn set time t p) (turn (busy t) (fault ChannelBusy))
 
 -- a packet. The transaction is on until its deadline; a message that is whole ends it, and not the response to it: DIFFERENCES 12
-unfoldable pub receive : (maximum time : ℕ) → Receiver → Packet → Turn
-receive max time idle p = whenIdle max time p
-receive max time (busy t) p = pick (leb (t .deadline) time) (whenOver max time t p) (whenBusy max time t p)
+unfoldable pub receive : Settings → (time : ℕ) → Receiver → Packet → Turn
+receive set time idle p = whenIdle set time p
+receive set time (busy t) p = pick (leb (t .deadline) time) (whenOver set time t p) (whenBusy set time t p)
 
 -- whether a transaction of channel c is on at a time
 unfoldable pub isOn : Receiver → (channel time : ℕ) → Bool

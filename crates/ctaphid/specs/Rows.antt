@@ -4,15 +4,15 @@ use mathlib.Core.Path.{_≡_}
 use mathlib.Core.List.{List, [], _∷_, _++_, map}
 use mathlib.Core.Bool.{true, false}
 use lib.ListN.{length, getD, replicate}
-use Rattle.ctaphid.specs.Choice.{refusing, isIn}
+use Rattle.ctaphid.specs.Choice.{pick, refusing, isIn}
 use Rattle.ctaphid.specs.Packets.{initialization, continuation, byte, read, Bytes, Formed}
 use Rattle.ctaphid.specs.Messages.{count, wire, splitWire}
 use Rattle.ctaphid.specs.Commands.{MSG, CBOR, INIT, PING, CANCEL, ERROR, KEEPALIVE, WINK, LOCK, VENDOR, number, isVendor, is, commandOf}
 use Rattle.ctaphid.specs.Errors.{InvalidCmd, InvalidPar, InvalidLen, InvalidSeq, MsgTimeout, ChannelBusy, LockRequired, InvalidChannel, Other, code}
 use Rattle.ctaphid.specs.Capabilities.{wink, cbor, nmsg, bit, capabilities}
 use Rattle.ctaphid.specs.Limits.{packetSize, largest, shortReply, timeout, winkTime, lastTime}
-use Rattle.ctaphid.specs.Settings.{Settings}
-use Rattle.ctaphid.specs.Receiver.{Receiver, idle, isOn, stillDue}
+use Rattle.ctaphid.specs.Settings.{Settings, knows}
+use Rattle.ctaphid.specs.Receiver.{Receiver, idle, busy, isOn, stillDue}
 use Rattle.ctaphid.specs.Transport.{Lock, free, Transport, fresh, Event, Answer, nothing, reply, request, isValid, isLocked, isLockedBy, isLockedAgainst, withAllocated, withLock, withReceiver, step, afterwards, run}
 use Rattle.ctaphid.specs.Refusals.{PacketSize, ShortBuffer, Unsound, Time, Maximum, Index, LongPayload, LongPing, Sequence, LongReply, NotInit, Command, Vendor, refusalNumber}
 use Rattle.ctaphid.specs.Device.{Device, device, setUp, deviceStep, deviceRun, isWinking}
@@ -181,6 +181,23 @@ upFrom n (suc k) = n ∷ upFrom (n + 1) k
 -- 64 bytes that count from 1 on, but for byte 4
 abbrev pub counted : (byte4 : ℕ) → List ℕ
 counted b = 1 ∷ 2 ∷ 3 ∷ 4 ∷ b ∷ upFrom 6 59
+
+-- those of these numbers that a device with these settings knows as a command
+abbrev pub known : Settings → List ℕ → List ℕ
+known set [] = []
+known set (n ∷ rest) = pick (knows set (commandOf n)) (n ∷ known set rest) (known set rest)
+
+-- the first packet of a message of so many bytes on channel 1, with a command by its byte 4; and all 129 packets of one of 7,609, with command 2
+abbrev pub opens : (byte4 high low : ℕ) → List ℕ
+opens b high low = on 1 ++ (b ∷ high ∷ low ∷ replicate 57 7)
+
+abbrev pub unknown129 : (time : ℕ) → List Event
+unknown129 t = at t (opens 0x82 0x1d 0xb9) ∷ map (λ (k : ℕ). at t (goOn k)) (upFrom 0 128)
+
+-- a device to which a caller's state brings a transaction of command 2, with 60 bytes, on channel 1
+abbrev pub brought : Device
+brought =
+    device (withReceiver (transportOf full 2) (busy (record { channel = 1; command = 2; declared = 60; collected = replicate 57 7; due = 0; deadline = 100 }))) 0
 
 -- the lock and the receiver after LOCK 1 on channel 1 at 0, and after the first packet of 60 bytes
 abbrev pub lockedAt0 : Lock
@@ -367,11 +384,35 @@ pub record FurtherRows : Type 0 where
   -- CANCEL gets nothing; KEEPALIVE, ERROR and an unknown command get InvalidCmd
   pub no-requests : answers (having 2) (at 0 (on 1 ++ (0x91 ∷ [])) ∷ at 0 (on 1 ++ (0xbb ∷ [])) ∷ at 0 (on 1 ++ (0xbf ∷ [])) ∷ at 0 (on 1 ++ (0x82 ∷ [])) ∷ [])
       ≡ none ∷ told 1 1 ∷ told 1 1 ∷ told 1 1 ∷ []
-  -- with 64 and 127 allowed: both are handed out, of any length; 65 gets InvalidCmd when it is whole, as each does where none is allowed
+  -- the commands that are known: without a list, and with 64 and 127 on it
+  pub known-commands : (known full (upFrom 0 128) ≡ 1 ∷ 3 ∷ 4 ∷ 6 ∷ 8 ∷ 16 ∷ 17 ∷ [])
+      × (known (branded .transport .settings) (upFrom 0 128) ≡ 1 ∷ 3 ∷ 4 ∷ 6 ∷ 8 ∷ 16 ∷ 17 ∷ 64 ∷ 127 ∷ [])
+  -- 129 packets of another command: InvalidCmd to the first, nothing to each of the others. The same under one's own lock, which stays, and after a transaction timed out
+  pub unknown-at-once : answers (having 2) (unknown129 0) ≡ told 1 1 ∷ replicate 128 none
+  pub unknown-locked : answers (having 2) (at 0 (lockOf 1) ∷ (unknown129 1 ++ (at 999 (pingOn 2) ∷ []))) ≡ locks ∷ told 1 1 ∷ (replicate 128 none ++ (told 2 6 ∷ []))
+  pub unknown-late : answers (having 2) (at 0 begin60 ∷ unknown129 100) ≡ none ∷ told 1 1 ∷ replicate 128 none
+  -- it begins no transaction: nothing is due, and another channel is served
+  pub unknown-begins-none : (dues (having 2) (at 0 (opens 0x82 0 60) ∷ []) ≡ 0 ∷ []) × (answers (having 2) (at 0 (opens 0x82 0 60) ∷ at 1 (pingOn 2) ∷ []) ≡ told 1 1 ∷ echo 2 ∷ [])
+  -- inside a transaction of its channel: InvalidSeq, and that one is dropped. Inside another's: ChannelBusy, and that one goes on
+  pub unknown-inside : answers (having 2) (at 0 begin60 ∷ at 1 (opens 0x82 0 60) ∷ at 2 (goOn 0) ∷ []) ≡ none ∷ told 1 4 ∷ none ∷ []
+  pub unknown-beside : answers (having 2) (at 0 begin60 ∷ at 1 (on 2 ++ (0x82 ∷ 0 ∷ 60 ∷ [])) ∷ at 2 (goOn 0) ∷ []) ≡ none ∷ told 2 6 ∷ done60 ∷ []
+  -- before its length is: 7,610 bytes, and one above a maximum of 100. KEEPALIVE and ERROR, and of the vendor's 65, are such commands
+  pub unknown-long : (answers (having 2) (at 0 (opens 0x82 0x1d 0xba) ∷ []) ≡ told 1 1 ∷ []) × (answers small (at 0 (opens 0x82 0 101) ∷ []) ≡ told 1 1 ∷ [])
+  pub unknown-others : map (λ (b : ℕ). answers branded (at 0 (opens b 0 60) ∷ at 1 (goOn 0) ∷ [])) (0xbb ∷ 0xbf ∷ 0xc1 ∷ [])
+      ≡ (told 1 1 ∷ none ∷ []) ∷ (told 1 1 ∷ none ∷ []) ∷ (told 1 1 ∷ none ∷ []) ∷ []
+  -- behind checks 1 and 2: on broadcast, on channel 3, disabled, and against another's lock
+  pub unknown-turned-away : answers (having 2)
+      (at 0 (everywhere ++ (0x82 ∷ 0 ∷ 60 ∷ [])) ∷ at 0 (on 3 ++ (0x82 ∷ 0 ∷ 60 ∷ [])) ∷ shutAt 0 (opens 0x82 0 60) ∷ at 0 (lockOf 1) ∷ at 1 (on 2 ++ (0x82 ∷ 0 ∷ 60 ∷ [])) ∷ [])
+      ≡ told 0xffff_ffff 11 ∷ told 3 11 ∷ told 1 6 ∷ locks ∷ told 2 6 ∷ []
+  -- CANCEL of 60 bytes is known, and gets nothing when it is whole; MSG without U2F is known, and is told InvalidCmd when it is whole
+  pub cancel-60 : answers (having 2) (at 0 (opens 0x91 0 60) ∷ at 1 (pingOn 2) ∷ at 2 (goOn 0) ∷ at 3 (pingOn 2) ∷ []) ≡ none ∷ told 2 6 ∷ none ∷ echo 2 ∷ []
+  pub msg-out-60 : answers without (at 0 (opens 0x83 0 60) ∷ at 1 (pingOn 2) ∷ at 2 (goOn 0) ∷ []) ≡ none ∷ told 2 6 ∷ told 1 1 ∷ []
+  -- a transaction of such a command that a caller's state brings along is told so when it is whole
+  pub unknown-brought : answers brought (at 98 (pingOn 2) ∷ at 99 (goOn 0) ∷ []) ≡ told 2 6 ∷ told 1 1 ∷ []
+  -- with 64 and 127 allowed: both are handed out, of any length; 65 gets InvalidCmd, as each does where none is allowed
   pub vendor-out : answers branded (at 0 (on 1 ++ (0xc0 ∷ 0 ∷ 1 ∷ 9 ∷ [])) ∷ at 0 (on 2 ++ (0xff ∷ [])) ∷ at 0 (on 1 ++ (0xc1 ∷ 0 ∷ 1 ∷ 9 ∷ [])) ∷ [])
       ≡ hands 1 64 (9 ∷ []) ∷ hands 2 127 [] ∷ told 1 1 ∷ []
   pub vendor-60 : answers branded (at 0 (on 1 ++ (0xff ∷ 0 ∷ 60 ∷ replicate 57 7)) ∷ at 99 (goOn 0) ∷ []) ≡ none ∷ hands 1 127 (replicate 57 7 ++ (8 ∷ 9 ∷ 10 ∷ [])) ∷ []
-  pub vendor-late : answers branded (at 0 (on 1 ++ (0xc1 ∷ 0 ∷ 60 ∷ replicate 57 7)) ∷ at 99 (goOn 0) ∷ []) ≡ none ∷ told 1 1 ∷ []
   pub vendor-none : answers (having 2) (at 0 (on 1 ++ (0xc0 ∷ [])) ∷ at 0 (on 1 ++ (0xff ∷ [])) ∷ []) ≡ told 1 1 ∷ told 1 1 ∷ []
   -- on the broadcast channel, and on one that isn't allocated: InvalidChannel
   pub vendor-nowhere : answers branded (at 0 (everywhere ++ (0xc0 ∷ [])) ∷ at 0 (on 3 ++ (0xc0 ∷ [])) ∷ []) ≡ told 0xffff_ffff 11 ∷ told 3 11 ∷ []

@@ -162,7 +162,7 @@ settled d time c t = settle (withReceiver d (t .receiver)) time c (t .reception)
 
 -- checks 3 to 7
 abbrev pub serve : Transport → (time : ℕ) → Packet → Next Transport
-serve d time p = settled d time (channelOf p) (receive (d .settings .maximum) time (d .receiver) p)
+serve d time p = settled d time (channelOf p) (receive (d .settings) time (d .receiver) p)
 
 -- checks 1 to 7
 unfoldable pub hear : Transport → (time : ℕ) → (disabled : Bool) → Packet → Next Transport

@@ -1,9 +1,12 @@
--- Wrong devices, that what bounds transactions and locks must catch. Assumes nothing.
+-- Wrong devices, that what bounds transactions and locks, and who is turned away, must catch. Assumes nothing.
 use Prim.Native.Nat.{ℕ, _+_, _-_}
+use mathlib.Core.Bool.{Bool, false}
 use lib.Dec.{leb, eqb}
 use Rattle.ctaphid.specs.Choice.{pick}
-use Rattle.ctaphid.specs.Receiver.{Receiver, idle, busy, isOn}
-use Rattle.ctaphid.specs.Transport.{Lock, Transport, Next, next, fresh, isLockedBy, withLock, withReceiver, step}
+use Rattle.ctaphid.specs.Packets.{Packet, initialization, continuation, read}
+use Rattle.ctaphid.specs.Errors.{InvalidCmd, ChannelBusy, code}
+use Rattle.ctaphid.specs.Receiver.{Receiver, idle, busy, Reception, silent, fault, whole, Turn, channelOf, startKnown, receive, isOn}
+use Rattle.ctaphid.specs.Transport.{Lock, Transport, Next, next, error, fresh, isValid, notValid, isLockedBy, isShut, withLock, withReceiver, settled, step}
 use Rattle.ctaphid.specs.Demands.{AnyDevice}
 
 -- the standard's transport, but a lock never ends
@@ -58,6 +61,35 @@ anyPacketIsLife =
       State = Transport;
       setUp = fresh;
       step = λ d e. revive (e .time) (step d e);
+      isOn = λ d c time. isOn (d .receiver) c time;
+      isLockedBy = λ d c time. isLockedBy (d .lock) c time;
+    }
+
+-- OpenSK's way (DIFFERENCES 21): the standard's transport, but a command that isn't known begins a transaction as any other does, and is told so when it is whole
+abbrev pub toldUnknown : Reception → Bool
+toldUnknown silent = false
+toldUnknown (fault e) = eqb (code e) (code InvalidCmd)
+toldUnknown (whole c cmd payload) = false
+
+abbrev pub begunLate : (maximum time : ℕ) → Packet → Turn → Turn
+begunLate max time (initialization c cmd n field) t = pick (toldUnknown (t .reception)) (startKnown max time c cmd n field) t
+begunLate max time (continuation c k field) t = t
+
+abbrev pub servedLate : Transport → (time : ℕ) → Packet → Next Transport
+servedLate d time p = settled d time (channelOf p) (begunLate (d .settings .maximum) time p (receive (d .settings) time (d .receiver) p))
+
+abbrev pub heardLate : Transport → (time : ℕ) → (disabled : Bool) → Packet → Next Transport
+heardLate d time disabled p =
+    pick (isValid (d .allocated) p)
+    (pick (isShut (d .lock) time disabled (channelOf p)) (next d (error (channelOf p) ChannelBusy)) (servedLate d time p))
+    (next d (notValid p))
+
+abbrev pub toldWhenWhole : AnyDevice
+toldWhenWhole =
+    record {
+      State = Transport;
+      setUp = fresh;
+      step = λ d e. heardLate d (e .time) (e .disabled) (read (e .packet));
       isOn = λ d c time. isOn (d .receiver) c time;
       isLockedBy = λ d c time. isLockedBy (d .lock) c time;
     }

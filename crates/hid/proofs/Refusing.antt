@@ -4,13 +4,13 @@ use native.Mathlib.Omega.{arith}
 use mathlib.Core.Path.{_≡_, refl, sym, _∙_}
 use mathlib.Core.List.{List}
 use mathlib.Core.Bool.{Bool, true, false}
-use borrow.Author.Tests.{eq-eqb, ne-eqb, eqb-true, lt-ltb, le-ltb, ltb-false}
+use borrow.Author.Tests.{eq-eqb, ne-eqb, eqb-true, lt-ltb, le-ltb, ltb-false, not-false}
 use lib.Dec.{eqb}
 use lib.ListN.{length}
 use Rattle.ctaphid.specs.Choice.{pick}
 use Rattle.ctaphid.specs.Limits.{lastTime, packetSize}
 use Rattle.ctaphid.specs.Packets.{read}
-use Rattle.ctaphid.proofs.Refusing.{refused-by, Passed, passed, none-refuse, not-true}
+use Rattle.ctaphid.proofs.Refusing.{refused-by, Passed, passed, none-refuse}
 use Rattle.answers.specs.declared.Answer.the-variants.{Refused}
 use Rattle.hid.specs.declared.CtapHid.{CtapHid}
 use Rattle.hid.specs.declared.Running.{Running}
@@ -68,10 +68,10 @@ module _ (s : CtapHid) (wink time : ℕ) (p m r : List ℕ) (n : ℕ) (e : n ≡
   pub admits-is : Sound s wink × Admits s time p m × (17 ≤ length r)
   admits-is =
       let g = tests-passed in
-      let sound : Sound s wink = sound-is s wink (not-true (isSound s wink) (g .1 .1 .1 .0)) in (
+      let sound : Sound s wink = sound-is s wink (not-false (isSound s wink) (g .1 .1 .1 .0)) in (
         sound,
         record {
-          size = eqb-true (length p) packetSize (not-true (eqb (length p) packetSize) (g .0));
+          size = eqb-true (length p) packetSize (not-false (eqb (length p) packetSize) (g .0));
           room = ltb-false (length m) (s .max) (g .1 .0);
           sound = record {
             maximum = sound .maximum;

@@ -29,6 +29,7 @@ use Rattle.receive.specs.Meaning.{transactionOf, receiverOf, assemblerOf}
 use Rattle.receive.specs.Assembler.{Assembling, assembling, assembledOf, Adds}
 use Rattle.receive.proofs.Receiving.{yes-turn, own-later, busy-own, receives-busy}
 use Rattle.hid.specs.Due.{dueBy}
+use Rattle.hid.specs.Meaning.{settingsIn, settingsOf}
 use Rattle.hid.specs.State.{having}
 use Rattle.hid.specs.Hearing.{Admits, Hears, stepping, heardOf}
 use Rattle.hid.specs.Refusals.{refusalOf}
@@ -121,11 +122,11 @@ module _ (s : CtapHid) (time : ℕ) (p m : List ℕ) (asks : Admits s time p m) 
       abbrev o : Assembled
       o = record { assembler = x; received = received.Nothing }
 
-      received-is : assembling o m1 ≡ assembledOf (receive (s .max) time (receiverOf a m) (heard q field)) m
+      received-is : assembling o m1 ≡ assembledOf (receive (settingsOf s) time (receiverOf a m) (heard q field)) m
       received-is =
-          receives-busy a (s .max) time (heard q field) m (assembling o m1) begun (due .live)
-          (busy-own (s .max) time q field m (assembling o m1) (transactionOf a m) {c = a .cid} refl refl
-          (own-later (s .max) time q field m (assembling o m1) (transactionOf a m) refl
+          receives-busy a (settingsOf s) time (heard q field) m (assembling o m1) begun (due .live)
+          (busy-own (settingsOf s) time q field m (assembling o m1) (transactionOf a m) {c = a .cid} refl refl
+          (own-later (settingsOf s) time q field m (assembling o m1) (transactionOf a m) refl
           (yes-turn _ (assembling o m1) _ _ m (eq-eqb (a .seq) (a .seq) refl) e)))
 
       abbrev grown : Transaction
@@ -149,7 +150,7 @@ module _ (s : CtapHid) (time : ℕ) (p m : List ℕ) (asks : Admits s time p m) 
           let valid : isValid (s .allocated) (heard q field) ≡ true = ap (isValid (s .allocated)) is-read ∙ due .valid in
           heard-packet s time p m (heard q field) is-read disabled r (stepping y m1 r)
           (hears-served s time disabled q field m r hears short valid {c = a .cid} refl {q = false} y m1 r (sym unshut) refl
-          (serves s time q field m r o m1 hears short valid (received-is ∙ sym (parsed-is s time (heard q field) m hears)) one-less nx k {c = a .cid} y r refl refl))
+          (serves s time q field m r o m1 hears short valid {set = settingsIn s} refl (received-is ∙ sym (parsed-is s time (heard q field) m hears)) one-less nx k {c = a .cid} y r refl refl))
 
 -- ---- a step by the short way
 module _ (s : CtapHid) (wink time : ℕ) (disabled : Bool) (p m r : List ℕ) {n : ℕ} (e : n ≡ refusalOf s wink time (length p) (length m) (length r)) (none : n ≡ 0)

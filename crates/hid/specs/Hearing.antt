@@ -15,7 +15,7 @@ use Rattle.receive.specs.Meaning.{receiverOf}
 use Rattle.receive.specs.Assembler.{buffered}
 use Rattle.hid.specs.declared.CtapHid.{CtapHid}
 use Rattle.hid.specs.declared.Stepped.{Stepped}
-use Rattle.hid.specs.Meaning.{transportOf}
+use Rattle.hid.specs.Meaning.{settingsOf, transportOf}
 use Rattle.hid.specs.Soundness.{Sound}
 use Rattle.hid.specs.State.{Serving, servedOf, keeping}
 use Rattle.hid.specs.Commands.{Serves}
@@ -47,7 +47,7 @@ steppingOf v m = stepping (v .stepped) m (v .reply)
 unfoldable pub messageAfter : CtapHid → (time : ℕ) → (disabled : Bool) → Packet → List ℕ → List ℕ
 messageAfter s time disabled p m =
     pick (isValid (s .allocated) p)
-    (pick (isShut (transportOf s m .lock) time disabled (channelOf p)) m (buffered (receive (s .max) time (receiverOf (s .assembler) m) p) m))
+    (pick (isShut (transportOf s m .lock) time disabled (channelOf p)) m (buffered (receive (settingsOf s) time (receiverOf (s .assembler) m) p) m))
     m
 
 unfoldable pub heardOf : CtapHid → (time : ℕ) → (disabled : Bool) → Packet → (message short : List ℕ) → Stepping

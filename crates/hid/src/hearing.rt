@@ -6,6 +6,7 @@ use crate::due::still_due;
 use crate::state::at_time;
 use crate::state::error_message;
 use crate::state::no_message;
+use crate::state::settings;
 use crate::state::with_assembler;
 use packet::CtapHidError;
 use packet::ProcessedPacket;
@@ -21,7 +22,7 @@ ghost use Rattle.ctaphid.specs.Transport.{isValid, serve};
 ghost use Rattle.packet.specs.Reading.{heard};
 ghost use Rattle.receive.specs.Meaning.{receiverOf};
 ghost use Rattle.receive.specs.Assembler.{buffered};
-ghost use Rattle.hid.specs.Meaning.{transportOf};
+ghost use Rattle.hid.specs.Meaning.{settingsOf, transportOf};
 ghost use Rattle.hid.specs.State.{serving, servedOf};
 ghost use Rattle.hid.specs.Hearing.{settledOf, Settles, Hears, Admits, stepping, steppingOf, heardOf};
 
@@ -103,10 +104,11 @@ fn serve(
 ) -> Stepped
     requires { ⌜ Hears hid time (heard packet (now «data»)) (now message) × (17 ≤ length (now reply)) ⌝ }
     requires { ⌜ isValid (hid .allocated) (heard packet (now «data»)) ≡ true ⌝ }
-    ensures { λ r. ⌜ stepping r (now (message .exit)) (now (reply .exit)) ≡ steppingOf (servedOf hid time (serve (transportOf hid (now (message .entry))) time (heard packet (now («data» .entry)))) (now (reply .entry))) (buffered (receive (hid .max) time (receiverOf (hid .assembler) (now (message .entry))) (heard packet (now («data» .entry)))) (now (message .entry))) ⌝ }
+    ensures { λ r. ⌜ stepping r (now (message .exit)) (now (reply .exit)) ≡ steppingOf (servedOf hid time (serve (transportOf hid (now (message .entry))) time (heard packet (now («data» .entry)))) (now (reply .entry))) (buffered (receive (settingsOf hid) time (receiverOf (hid .assembler) (now (message .entry))) (heard packet (now («data» .entry)))) (now (message .entry))) ⌝ }
 {
     let assembler = hid.assembler;
-    let assembled = assembler.parse_packet(hid.max, time, packet, data, message);
+    let set = settings(hid);
+    let assembled = assembler.parse_packet(set, time, packet, data, message);
     let due = still_due(assembled.assembler);
     let next = with_assembler(hid, time, assembled.assembler, due);
     let received = assembled.received;

@@ -4,21 +4,25 @@ use native.Mathlib.Omega.{arith}
 use native.Mathlib.Decide.{decLe, ℕ-discrete}
 use mathlib.Core.Path.{_≡_, refl, sym, ap, _∙_}
 use mathlib.Core.List.{List, [], _++_}
-use mathlib.Core.Bool.{Bool, true, false}
-use borrow.Author.Tests.{lt-ltb, le-ltb, le-leb, lt-leb, eq-eqb, ne-eqb, eqb-true, leb-true, ltb-false}
+use mathlib.Core.Bool.{Bool, true, false, not}
+use borrow.Author.Tests.{lt-ltb, le-ltb, le-leb, lt-leb, eq-eqb, ne-eqb, eqb-true, leb-true, ltb-false, not-true, not-false}
 use lib.Dec.{leb, eqb}
 use lib.ListN.{length, take, length-append, take-append-drop}
 use lib.Seq.{length-take-le}
 use Rattle.ctaphid.specs.Choice.{pick}
-use Rattle.ctaphid.specs.Errors.{Error, InvalidSeq, MsgTimeout, ChannelBusy, code}
+use Rattle.ctaphid.specs.Errors.{Error, InvalidCmd, InvalidSeq, MsgTimeout, ChannelBusy, code}
 use Rattle.ctaphid.specs.Packets.{Packet}
-use Rattle.ctaphid.specs.Receiver.{Transaction, idle, busy, silent, fault, Turn, turn, channelOf, collect, start, whenIdle, whenOver, onOwn, whenBusy, receive}
+use Rattle.ctaphid.specs.Commands.{commandOf}
+use Rattle.ctaphid.specs.Settings.{Settings, knows}
+use Rattle.ctaphid.specs.Receiver.{Transaction, idle, busy, silent, fault, Turn, turn, channelOf, collect, startKnown, start, whenIdle, whenOver, onOwn, whenBusy, receive}
 use Rattle.ctaphid.specs.Limits.{lastTime}
 use Rattle.ctaphid.proofs.Tests.{pick-true, pick-known}
-use Rattle.ctaphid.proofs.Refusing.{refused-by, Passed, passed, none-refuse, not-true}
+use Rattle.ctaphid.proofs.Refusing.{refused-by, Passed, passed, none-refuse}
 use Rattle.packet.specs.Reading.{heard}
 use Rattle.packet.specs.declared.ProcessedPacket.{ProcessedPacket}
 use Rattle.packet.specs.declared.ProcessedPacket.the-variants.{InitPacket, ContinuationPacket}
+use Rattle.settings.specs.declared.Settings as declared
+use Rattle.settings.specs.Meaning.{settingsOf}
 use Rattle.collect.specs.Adding.{front, Adding, added, addOf}
 use Rattle.collect.specs.declared.Added.{Added}
 use Rattle.collect.specs.declared.Added.the-variants.{Waiting, Whole, Refused}
@@ -63,44 +67,54 @@ pub same-channel : (p : ProcessedPacket) (x y : List ℕ) → channelOf (heard p
 same-channel (InitPacket cid cmd len) x y = refl
 same-channel (ContinuationPacket cid seq) x y = refl
 
-module _ (max time : ℕ) (p : ProcessedPacket) (d m : List ℕ) (o : Assembling) where
-  pub idle-first : {cid cmd len : ℕ} → p ≡ InitPacket cid cmd len → o ≡ assembledOf (start max time cid cmd len d) m → o ≡ assembledOf (whenIdle max time (heard p d)) m
+module _ (set : Settings) (time : ℕ) (p : ProcessedPacket) (d m : List ℕ) (o : Assembling) where
+  pub idle-first : {cid cmd len : ℕ} → p ≡ InitPacket cid cmd len → o ≡ assembledOf (start set time cid cmd len d) m → o ≡ assembledOf (whenIdle set time (heard p d)) m
   unfolding whenIdle
   idle-first e k = simp e k
 
-  pub idle-later : {cid seq : ℕ} → p ≡ ContinuationPacket cid seq → o ≡ assembledOf (turn idle silent) m → o ≡ assembledOf (whenIdle max time (heard p d)) m
+  pub idle-later : {cid seq : ℕ} → p ≡ ContinuationPacket cid seq → o ≡ assembledOf (turn idle silent) m → o ≡ assembledOf (whenIdle set time (heard p d)) m
   unfolding whenIdle
   idle-later e k = simp e k
 
-  pub over-first : {cid cmd len : ℕ} (t : Transaction) → p ≡ InitPacket cid cmd len → o ≡ assembledOf (start max time cid cmd len d) m → o ≡ assembledOf (whenOver max time t (heard p d)) m
+  pub over-first : {cid cmd len : ℕ} (t : Transaction) → p ≡ InitPacket cid cmd len → o ≡ assembledOf (start set time cid cmd len d) m → o ≡ assembledOf (whenOver set time t (heard p d)) m
   unfolding whenOver whenIdle
   over-first t e k = simp e k
 
-  pub over-later : {cid seq : ℕ} (t : Transaction) → p ≡ ContinuationPacket cid seq → o ≡ assembledOf (pick (eqb cid (t .channel)) (turn idle (fault MsgTimeout)) (turn idle silent)) m → o ≡ assembledOf (whenOver max time t (heard p d)) m
+  pub over-later : {cid seq : ℕ} (t : Transaction) → p ≡ ContinuationPacket cid seq → o ≡ assembledOf (pick (eqb cid (t .channel)) (turn idle (fault MsgTimeout)) (turn idle silent)) m → o ≡ assembledOf (whenOver set time t (heard p d)) m
   unfolding whenOver whenIdle
   over-later t e k = simp e k
 
-  pub own-first : {cid cmd len : ℕ} (t : Transaction) → p ≡ InitPacket cid cmd len → o ≡ assembledOf (pick (eqb cmd 6) (start max time cid cmd len d) (turn idle (fault InvalidSeq))) m → o ≡ assembledOf (onOwn max time t (heard p d)) m
+  pub own-first : {cid cmd len : ℕ} (t : Transaction) → p ≡ InitPacket cid cmd len → o ≡ assembledOf (pick (eqb cmd 6) (start set time cid cmd len d) (turn idle (fault InvalidSeq))) m → o ≡ assembledOf (onOwn set time t (heard p d)) m
   unfolding onOwn
   own-first t e k = simp e k
 
   pub own-later : {cid seq : ℕ} (t : Transaction) → p ≡ ContinuationPacket cid seq
       → o ≡ assembledOf (pick (eqb seq (t .due)) (collect (record { channel = t .channel; command = t .command; declared = t .declared; collected = t .collected; due = t .due + 1; deadline = time + 100 }) d) (turn idle (fault InvalidSeq))) m
-      → o ≡ assembledOf (onOwn max time t (heard p d)) m
+      → o ≡ assembledOf (onOwn set time t (heard p d)) m
   unfolding onOwn
   own-later t e k = simp e k
 
   module _ (t : Transaction) {c : ℕ} (is : c ≡ channelOf (heard p [])) where
-    pub busy-other : (c ≡ t .channel → ⊥) → o ≡ assembledOf (turn (busy t) (fault ChannelBusy)) m → o ≡ assembledOf (whenBusy max time t (heard p d)) m
+    pub busy-other : (c ≡ t .channel → ⊥) → o ≡ assembledOf (turn (busy t) (fault ChannelBusy)) m → o ≡ assembledOf (whenBusy set time t (heard p d)) m
     unfolding whenBusy pick
     busy-other n k = simp (ne-eqb (channelOf (heard p d)) (t .channel) (λ e. n (is ∙ same-channel p [] d ∙ e))) k
 
-    pub busy-own : c ≡ t .channel → o ≡ assembledOf (onOwn max time t (heard p d)) m → o ≡ assembledOf (whenBusy max time t (heard p d)) m
+    pub busy-own : c ≡ t .channel → o ≡ assembledOf (onOwn set time t (heard p d)) m → o ≡ assembledOf (whenBusy set time t (heard p d)) m
     unfolding whenBusy pick
     busy-own e k = simp (eq-eqb (channelOf (heard p d)) (t .channel) (same-channel p d [] ∙ sym is ∙ e)) k
 
 pub adds-of : (a : MessageAssembler) (max time : ℕ) (m : List ℕ) → Receives a max time m → (a .len ≡ 0 → ⊥) → Adds a m
 adds-of a max time m r = r .adds
+
+-- ---- check 4: a command that isn't known, and one that is
+module _ (set : declared.Settings) (time cid cmd len : ℕ) (d m : List ℕ) {b : Bool} (is : b ≡ knows (settingsOf set) (commandOf cmd)) where
+  pub start-unknown : (r : Assembled) → not b ≡ true → r ≡ record { assembler = none; received = received.Error 1 } → assembling r m ≡ assembledOf (start (settingsOf set) time cid cmd len d) m
+  unfolding start
+  start-unknown r e k = no-turn _ (assembling r m) _ _ m (sym is ∙ not-true b e) (reset-fault r m InvalidCmd k)
+
+  pub start-known : (o : Assembling) → not b ≡ false → o ≡ assembledOf (startKnown (set .max) time cid cmd len d) m → o ≡ assembledOf (start (settingsOf set) time cid cmd len d) m
+  unfolding start
+  start-known o e k = yes-turn _ o _ _ m (sym is ∙ not-false b e) k
 
 -- ---- check 6
 module _ (a : MessageAssembler) (m d : List ℕ) (adds : Adds a m) where
@@ -165,16 +179,16 @@ module _ (a : MessageAssembler) (m d : List ℕ) (adds : Adds a m) where
             omega arith
 
 -- ---- checks 3 to 5
-module _ (a : MessageAssembler) (max time : ℕ) (p : Packet) (m : List ℕ) (o : Assembling) where
-  pub receives-idle : a .len ≡ 0 → o ≡ assembledOf (whenIdle max time p) m → o ≡ assembledOf (receive max time (receiverOf a m) p) m
+module _ (a : MessageAssembler) (set : Settings) (time : ℕ) (p : Packet) (m : List ℕ) (o : Assembling) where
+  pub receives-idle : a .len ≡ 0 → o ≡ assembledOf (whenIdle set time p) m → o ≡ assembledOf (receive set time (receiverOf a m) p) m
   unfolding receive receiverOf pick
   receives-idle e k = simp (eq-eqb _ _ e) k
 
-  pub receives-over : (a .len ≡ 0 → ⊥) → a .deadline ≤ time → o ≡ assembledOf (whenOver max time (transactionOf a m) p) m → o ≡ assembledOf (receive max time (receiverOf a m) p) m
+  pub receives-over : (a .len ≡ 0 → ⊥) → a .deadline ≤ time → o ≡ assembledOf (whenOver set time (transactionOf a m) p) m → o ≡ assembledOf (receive set time (receiverOf a m) p) m
   unfolding receive receiverOf pick
   receives-over e h k = simp (ne-eqb _ _ e, le-leb (a .deadline) time h) k
 
-  pub receives-busy : (a .len ≡ 0 → ⊥) → time < a .deadline → o ≡ assembledOf (whenBusy max time (transactionOf a m) p) m → o ≡ assembledOf (receive max time (receiverOf a m) p) m
+  pub receives-busy : (a .len ≡ 0 → ⊥) → time < a .deadline → o ≡ assembledOf (whenBusy set time (transactionOf a m) p) m → o ≡ assembledOf (receive set time (receiverOf a m) p) m
   unfolding receive receiverOf pick
   receives-busy e h k = simp (ne-eqb _ _ e, lt-leb (a .deadline) time h) k
 
@@ -234,27 +248,27 @@ module _ (a : MessageAssembler) (max time room : ℕ) where
 pub ruleset refusal = (refusal-2, refusal-3, refusal-4, refusal-0)
 
 -- a packet that is refused, and one that isn't
-module _ (a : MessageAssembler) (max time : ℕ) (m : List ℕ) {n : ℕ} (e : n ≡ refusalOf a max time (length m)) where
+module _ (a : MessageAssembler) (set : declared.Settings) (time : ℕ) (m : List ℕ) {n : ℕ} (e : n ≡ refusalOf a (set .max) time (length m)) where
   abbrev refused : ℕ → Assembling
   refused number = assembling (record { assembler = a; received = received.Refused number }) m
 
-  pub parse-refused : (p : Packet) → (n ≡ 0 → ⊥) → refused n ≡ parsedOf a max time p m
+  pub parse-refused : (p : Packet) → (n ≡ 0 → ⊥) → refused n ≡ parsedOf a set time p m
   unfolding refusalOf parsedOf
-  parse-refused p some = refused-by refused (refusals a max time (length m)) (assembledOf (receive max time (receiverOf a m) p) m) n e some
+  parse-refused p some = refused-by refused (refusals a (set .max) time (length m)) (assembledOf (receive (settingsOf set) time (receiverOf a m) p) m) n e some
 
   module _ (none : n ≡ 0) where
-    tests-passed : Passed (refusals a max time (length m))
+    tests-passed : Passed (refusals a (set .max) time (length m))
     unfolding refusalOf
-    tests-passed = passed (refusals a max time (length m)) refl (sym none ∙ e)
+    tests-passed = passed (refusals a (set .max) time (length m)) refl (sym none ∙ e)
 
-    pub parse-receives : Receives a max time m
+    pub parse-receives : Receives a (set .max) time m
     parse-receives =
-        let room : max ≤ length m = ltb-false (length m) max (tests-passed .0) in
+        let room : set .max ≤ length m = ltb-false (length m) (set .max) (tests-passed .0) in
         record {
           room = room;
           early = ltb-false lastTime time (tests-passed .1 .1 .0);
           adds = λ some.
-              let u = sound-is a max some (not-true (isSound a max) (tests-passed .1 .0)) in
+              let u = sound-is a (set .max) some (not-false (isSound a (set .max)) (tests-passed .1 .0)) in
               record {
                 taken = omega (arith, u .lengths .below, u .lengths .bytes);
                 room = omega (arith, u .lengths .within);
@@ -262,8 +276,8 @@ module _ (a : MessageAssembler) (max time : ℕ) (m : List ℕ) {n : ℕ} (e : n
               };
         }
 
-    pub parse-received : (p : Packet) (o : Assembling) → o ≡ assembledOf (receive max time (receiverOf a m) p) m → o ≡ parsedOf a max time p m
+    pub parse-received : (p : Packet) (o : Assembling) → o ≡ assembledOf (receive (settingsOf set) time (receiverOf a m) p) m → o ≡ parsedOf a set time p m
     unfolding parsedOf
-    parse-received p o k = k ∙ sym (none-refuse refused (refusals a max time (length m)) (assembledOf (receive max time (receiverOf a m) p) m) tests-passed)
+    parse-received p o k = k ∙ sym (none-refuse refused (refusals a (set .max) time (length m)) (assembledOf (receive (settingsOf set) time (receiverOf a m) p) m) tests-passed)
 
-pub ruleset turns = (yes-turn, no-turn, reset-silent, reset-fault, goes-on, idle-first, idle-later, over-first, over-later, own-first, own-later, busy-other, busy-own, collected-waiting, collected-whole, collected-refused, receives-idle, receives-over, receives-busy)
+pub ruleset turns = (yes-turn, no-turn, reset-silent, reset-fault, goes-on, idle-first, idle-later, over-first, over-later, own-first, own-later, busy-other, busy-own, collected-waiting, collected-whole, collected-refused, receives-idle, receives-over, receives-busy, start-unknown, start-known)

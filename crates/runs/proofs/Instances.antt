@@ -9,7 +9,7 @@ use Rattle.ctaphid.specs.Choice.{pick}
 use Rattle.ctaphid.specs.Packets.{channelIn, declaredIn, read}
 use Rattle.ctaphid.specs.Commands.{CBOR, isVendor, among}
 use Rattle.ctaphid.specs.Settings.{Settings, knows}
-use Rattle.ctaphid.specs.Receiver.{collect, start, whenIdle, whenOver, onOwn, whenBusy, receive}
+use Rattle.ctaphid.specs.Receiver.{collect, startKnown, start, whenIdle, whenOver, onOwn, whenBusy, receive}
 use Rattle.ctaphid.specs.Transport.{Event, Answer, request, isAllocated, isValid, isLockedAgainst, isShut, nextChannel, onInit, obey, dispatch, settle, hear}
 use Rattle.ctaphid.specs.Demands.{Taken, answer}
 use Rattle.ctaphid.proofs.Histories.{none-permitted}
@@ -40,12 +40,12 @@ Hands lent a b = (answer (code lent) small first (at 6 ends) ≡ a) × (answer (
 
 -- both messages, though all that isn't owed is overwritten before every call
 pub overwritten-between : Hands scribbling (request 1 CBOR (message 1)) (request 1 CBOR (message 2))
-unfolding read channelIn declaredIn hear isShut isLockedAgainst settle dispatch knows obey isVendor onInit nextChannel isAllocated isValid receive whenIdle whenOver whenBusy onOwn start collect among pick receiverOf isStanding receive.isSound isOnChannel isPlaced isCounted transacts isHeld isTimely isSound servedOf messageAfter heardOf admittedOf
+unfolding read channelIn declaredIn hear isShut isLockedAgainst settle dispatch knows obey isVendor onInit nextChannel isAllocated isValid receive whenIdle whenOver whenBusy onOwn start startKnown collect among pick receiverOf isStanding receive.isSound isOnChannel isPlaced isCounted transacts isHeld isTimely isSound servedOf messageAfter heardOf admittedOf
 overwritten-between = (refl, refl)
 
 -- bytes that are owed are what was lent, and no longer what was sent
 pub overwritten-inside : Hands careless (request 1 CBOR (replicate 57 0xee ++ (7 ∷ []))) (request 1 CBOR (replicate 57 0xee ++ (7 ∷ [])))
-unfolding read channelIn declaredIn hear isShut isLockedAgainst settle dispatch knows obey isVendor onInit nextChannel isAllocated isValid receive whenIdle whenOver whenBusy onOwn start collect among pick receiverOf isStanding receive.isSound isOnChannel isPlaced isCounted transacts isHeld isTimely isSound servedOf messageAfter heardOf admittedOf
+unfolding read channelIn declaredIn hear isShut isLockedAgainst settle dispatch knows obey isVendor onInit nextChannel isAllocated isValid receive whenIdle whenOver whenBusy onOwn start startKnown collect among pick receiverOf isStanding receive.isSound isOnChannel isPlaced isCounted transacts isHeld isTimely isSound servedOf messageAfter heardOf admittedOf
 overwritten-inside = (refl, refl)
 
 -- so such a caller does not lend as it must
@@ -55,7 +55,7 @@ taken =
     (proper 6 ends (omega arith) refl refl, omega arith, (proper 5 (begins 16 1) (omega arith) refl refl, omega arith, (proper 0 init (omega arith) refl refl, omega arith, tt)))
 
 pub careless-owes : LendsWell careless → ⊥
-unfolding read channelIn declaredIn hear isShut isLockedAgainst settle dispatch knows obey isVendor onInit nextChannel isAllocated isValid receive whenIdle whenOver whenBusy onOwn start collect among pick receiverOf isStanding receive.isSound isOnChannel isPlaced isCounted transacts isHeld isTimely isSound servedOf messageAfter heardOf admittedOf
+unfolding read channelIn declaredIn hear isShut isLockedAgainst settle dispatch knows obey isVendor onInit nextChannel isAllocated isValid receive whenIdle whenOver whenBusy onOwn start startKnown collect among pick receiverOf isStanding receive.isSound isOnChannel isPlaced isCounted transacts isHeld isTimely isSound servedOf messageAfter heardOf admittedOf
 careless-owes well =
     let same = well small (none-permitted small (omega arith) refl) first (at 6 ends) taken .kept (record { begun = λ z. omega (arith, z); live = omega arith }) in
     let z : _≡_ {A = ℕ} 0xee 1 = ap (λ (l : List ℕ). getD l 0 0) same in

@@ -157,9 +157,9 @@ module _ (s : CtapHid) (wink time : ℕ) (disabled : Bool) (p : Packet) (m : Lis
   abbrev Right : Next Transport → List ℕ → Type 0
   Right n m′ = Stands (n .state .receiver) m′ × Carried (n .answer) m′
 
-  served-right : isValid (s .allocated) p ≡ true → Right (serve d time p) (buffered (receive (s .max) time (receiverOf (s .assembler) m) p) m)
+  served-right : isValid (s .allocated) p ≡ true → Right (serve d time p) (buffered (receive (settingsOf s) time (receiverOf (s .assembler) m) p) m)
   served-right valid =
-      let t : Turn = receive (s .max) time (receiverOf (s .assembler) m) p in
+      let t : Turn = receive (settingsOf s) time (receiverOf (s .assembler) m) p in
       let ts = turns-valid d time p holds formed valid in (
         subst (λ (y : Receiver). Stands y (buffered t m)) (sym (same-receiver (withReceiver d (t .receiver)) time (channelOf p) (t .reception))) (stands-buffered (s .max) (s .allocated) time (t .receiver) (t .reception) m (ts .receives)),
         carried-settle d (s .max) (s .allocated) time (channelOf p) (t .receiver) (t .reception) m (ts .tells),
@@ -417,7 +417,7 @@ kept-long s time disabled p m =
     Long x = length m ≤ length x
 
     t : Turn
-    t = receive (s .max) time (receiverOf (s .assembler) m) p
+    t = receive (settingsOf s) time (receiverOf (s .assembler) m) p
 
 pub record Leaves (s : CtapHid) (e : Event) (b : Buffers) (x : Stepping) : Type 0 where
   pub last : x .stepped .hid .last ≡ e .time

@@ -1,5 +1,5 @@
 -- `parse_init_packet` meets its contract. Assumes nothing.
-use Rattle.ctaphid.specs.Receiver.{start}
+use Rattle.ctaphid.specs.Receiver.{startKnown}
 use Rattle.ctaphid.proofs.Tests.{tests}
 use Rattle.receive.proofs.Receiving.{turns}
 use borrow.Author.Needs.{needs}
@@ -9,19 +9,32 @@ use Rattle.receive.proofs.assembler.parse_init_packet.Reads as reads
 use Rattle.receive.proofs.assembler.parse_init_packet.Lts as lts
 use Rattle.receive.proofs.assembler.append_payload.Reads as append-payload-reads
 use Rattle.receive.proofs.assembler.reset.Reads as reset-reads
+use Rattle.settings.proofs.Settings.knows.Reads as knows-reads
+
+knows-requires : tie.Need-knows-requires
+knows-requires c κs = search needs
 
 reset-requires : tie.Need-reset-requires
 reset-requires c κs = search needs
 
 returns : tie.Need-returns
-unfolding start
 returns c = search (tests, turns)
 
-add-t12 : tie.Need-add-t12
-add-t12 c = search needs
+cast-if2 : tie.Need-cast-if2
+cast-if2 c = search needs
 
-cast-t13 : tie.Need-cast-t13
-cast-t13 c = search needs
+reset-requires-2 : tie.Need-reset-requires-2
+reset-requires-2 c κs = search needs
+
+returns-2 : tie.Need-returns-2
+unfolding startKnown
+returns-2 c = search (tests, turns)
+
+add-t14 : tie.Need-add-t14
+add-t14 c = search needs
+
+cast-t15 : tie.Need-cast-t15
+cast-t15 c = search needs
 
 append-payload-requires : tie.Need-append-payload-requires
 append-payload-requires c κs = search needs
@@ -29,18 +42,22 @@ append-payload-requires c κs = search needs
 same-length : tie.Need-same-length
 same-length c = search needs
 
-returns-2 : tie.Need-returns-2
-unfolding start
-returns-2 c = search (tests, turns)
+returns-3 : tie.Need-returns-3
+unfolding startKnown
+returns-3 c = search (tests, turns)
 
 pub parse-init-packet-spec : {M : Type 1} → statement M
 parse-init-packet-spec =
     tie.close
     (tie.spec
+    knows-requires
     reset-requires
     returns
-    add-t12
-    cast-t13
+    cast-if2
+    reset-requires-2
+    returns-2
+    add-t14
+    cast-t15
     append-payload-requires
     same-length
-    returns-2)
+    returns-3)
