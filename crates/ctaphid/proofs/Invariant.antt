@@ -108,7 +108,7 @@ module _ (set : Settings) (n time : ℕ) where
   turns-start : (c cmd declared : ℕ) (field : List ℕ) → cmd ≤ 127 → length field ≡ 57 → Allowed n c cmd → Turns max n time (start set time c cmd declared field)
   unfolding start
   turns-start c cmd declared field command size channel =
-      either (knows set (commandOf cmd)) _ _ (turns-known c cmd declared field command size channel) (record { receives = tt; tells = tt })
+      either _ _ _ (turns-known c cmd declared field command size channel) (record { receives = tt; tells = tt })
 
   turns-idle : (p : Packet) → Formed p → Asks n p → Turns max n time (whenIdle set time p)
   unfolding whenIdle
@@ -123,7 +123,7 @@ module _ (set : Settings) (n time : ℕ) where
   turns-own : (t : Transaction) (p : Packet) → Runs max n time t → Formed p → Asks n p → Turns max n time (onOwn set time t p)
   unfolding onOwn
   turns-own t (initialization c cmd declared field) r f a =
-      either (eqb cmd (number INIT)) _ _ (turns-start c cmd declared field (omega (arith, f .1)) (f .3) a) (record { receives = tt; tells = tt })
+      either _ _ _ (turns-start c cmd declared field (omega (arith, f .1)) (f .3) a) (record { receives = tt; tells = tt })
   turns-own t (continuation c k field) r f a =
       either (eqb k (t .due)) _ _
       (turns-collect (record { channel = t .channel; command = t .command; declared = t .declared; collected = t .collected; due = t .due + 1; deadline = time + 100 }) field (r .command) (r .most) (omega arith) (r .channel)
@@ -167,7 +167,7 @@ module _ (set : Settings) (time : ℕ) where
   own-start : (c cmd declared : ℕ) (field : List ℕ) → IsOf c (start set time c cmd declared field .reception)
   unfolding start startKnown
   own-start c cmd declared field =
-      pick-both (λ (x : Turn). IsOf c (x .reception)) (knows set (commandOf cmd)) _ _
+      pick-both (λ (x : Turn). IsOf c (x .reception)) _ _ _
       (pick-both (λ (x : Turn). IsOf c (x .reception)) (ltb (set .maximum) declared) _ _ tt (own-collect c _ field refl))
       tt
 
@@ -183,7 +183,7 @@ module _ (set : Settings) (time : ℕ) where
 
   own-own : (t : Transaction) (p : Packet) → channelOf p ≡ t .channel → IsOf (channelOf p) (onOwn set time t p .reception)
   unfolding onOwn
-  own-own t (initialization c cmd declared field) e = pick-both (λ (x : Turn). IsOf c (x .reception)) (eqb cmd (number INIT)) _ _ (own-start c cmd declared field) tt
+  own-own t (initialization c cmd declared field) e = pick-both (λ (x : Turn). IsOf c (x .reception)) _ _ _ (own-start c cmd declared field) tt
   own-own t (continuation c k field) e = pick-both (λ (x : Turn). IsOf c (x .reception)) (eqb k (t .due)) _ _ (own-collect c _ field (sym e)) tt
 
   own-busy : (t : Transaction) (p : Packet) → IsOf (channelOf p) (whenBusy set time t p .reception)
