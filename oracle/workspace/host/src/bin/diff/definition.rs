@@ -8,8 +8,11 @@ pub const BROADCAST: u32 = 0xffff_ffff;
 /// CTAP 2.1, 11.2.9.3: the numbers that are the vendor's.
 pub const VENDOR: std::ops::RangeInclusive<u8> = 0x40..=0x7f;
 
+/// The other commands that a host may send, 11.2.9.1 and 11.2.9.2: PING, MSG, LOCK, INIT, WINK, CBOR and CANCEL.
+const KNOWN: [u8; 7] = [1, 3, 4, 6, 8, 16, 17];
+
 /// Faults of a step, of set-up, and of the functions beside them.
-pub const FAULTS: [&str; 62] = [
+pub const FAULTS: [&str; 77] = [
     "first-number-1",
     "timer-99",
     "timer-101",
@@ -40,6 +43,19 @@ pub const FAULTS: [&str; 62] = [
     "due-cleared-by-others",
     "due-of-too-long",
     "due-kept-at-set-up",
+    "unknown-told-when-whole",
+    "unknown-begins",
+    "keepalive-told-when-whole",
+    "early-after-length",
+    "early-inside",
+    "early-when-busy",
+    "early-when-locked",
+    "early-on-any-channel",
+    "early-keeps-timed-out",
+    "early-writes-data",
+    "early-known-long",
+    "early-cancel",
+    "early-msg-without-u2f",
     "owed-byte-lost",
     "unlisted-handed-out",
     "listed-not-known",
@@ -48,6 +64,8 @@ pub const FAULTS: [&str; 62] = [
     "listed-leaves-wink",
     "listed-on-broadcast",
     "listed-begins-anew",
+    "listed-early",
+    "unlisted-late",
     "list-bit-one-off",
     "list-read-one-off",
     "list-lost-at-init",
@@ -235,6 +253,7 @@ impl Definition {
 
         // a transaction whose time is up stands, and its packets are due, until check 3 drops it
         let running = self.hid.assembler;
+        let still_due = self.hid.still_due;
         let late = running.len > 0 && running.deadline <= time;
         if late && self.is("due-cleared-when-late") {
             self.hid.still_due = 0;
@@ -247,9 +266,19 @@ impl Definition {
             }
             _ => allocated(&self.hid),
         };
+        // what 4 answers InvalidCmd, should it get that far; with a fault an earlier check does
+        let unknown = first && !self.knows(cmd, len);
+        let planted = self.fault;
+        let or_early = |number, fault| {
+            if unknown && planted == fault {
+                1
+            } else {
+                number
+            }
+        };
         if !valid {
             if first {
-                error(11);
+                error(or_early(11, "early-on-any-channel"));
             }
             return;
         }
@@ -258,7 +287,7 @@ impl Definition {
             && self.hid.locked != cid
             && !(self.is("init-through-lock") && cid == BROADCAST);
         if disabled || locked {
-            return error(6);
+            return error(or_early(6, "early-when-locked"));
         }
         // 3
         let life = match self.fault {
@@ -285,7 +314,7 @@ impl Definition {
             if self.fault == "due-cleared-by-others" {
                 *due = 0;
             }
-            return error(6);
+            return error(or_early(6, "early-when-busy"));
         }
         if first {
             if assembler.len > 0 {
@@ -298,7 +327,7 @@ impl Definition {
                 }
                 let anew = self.fault == "listed-begins-anew" && self.known.contains(&cmd);
                 if cmd != 6 && !anew {
-                    return error(4);
+                    return error(or_early(4, "early-inside"));
                 }
             }
             let over = match self.fault {
@@ -313,6 +342,21 @@ impl Definition {
                 "due-57" => behind.div_ceil(57),
                 _ => behind.div_ceil(59),
             };
+            if unknown {
+                error(1);
+                match self.fault {
+                    "unknown-begins" if 57 < len && !over => (),
+                    "early-keeps-timed-out" if late => {
+                        (*assembler, *due) = (running, still_due);
+                        return;
+                    }
+                    "early-writes-data" => {
+                        effect.data = 7..7 + len.min(57) as usize;
+                        return;
+                    }
+                    _ => return,
+                }
+            }
             if over {
                 if self.fault == "due-of-too-long" {
                     *due = count;
@@ -415,7 +459,7 @@ impl Definition {
             17 => (),
             1 => effect.inner = told(ECHO, cid, 1, len),
             3 | 8 | 16 => effect.inner = told(MESSAGE, cid, cmd, len),
-            _ if VENDOR.contains(&cmd) && self.knows(cmd, len) => {
+            _ if VENDOR.contains(&cmd) && self.lists(cmd, len) => {
                 let as_cbor = self.fault == "listed-as-cbor";
                 effect.inner = told(MESSAGE, cid, if as_cbor { 16 } else { cmd }, len);
             }
@@ -423,8 +467,26 @@ impl Definition {
         }
     }
 
-    /// Whether a vendor command is handed out, of so many bytes.
-    fn knows(&self, number: u8, len: usize) -> bool {
+    /// C-16: whether a command is known, so that its first packet may begin a transaction of so many bytes. Any other gets
+    /// InvalidCmd at once, whatever it declares. MSG is known without U2F too.
+    fn knows(&self, cmd: u8, len: u32) -> bool {
+        let is_vendor = VENDOR.contains(&cmd);
+        let known = KNOWN.contains(&cmd) || is_vendor && self.lists(cmd, len as usize);
+        match (self.fault, cmd) {
+            ("unknown-told-when-whole", _) | ("keepalive-told-when-whole", 59) => true,
+            ("early-after-length", _) if len > self.hid.max => true,
+            ("early-known-long", 1) => len <= 57,
+            ("early-cancel", 17) => false,
+            // in the form that the device's own answers show: of one packet it gets InvalidCmd anyway
+            ("early-msg-without-u2f", 3) if self.hid.u2f == 0 => len <= 57 || len > self.hid.max,
+            ("listed-early", _) if is_vendor => known && len <= 57,
+            ("unlisted-late", _) if is_vendor => known || !self.known.is_empty(),
+            _ => known,
+        }
+    }
+
+    /// Whether a vendor command is on the list, of a message of so many bytes.
+    fn lists(&self, number: u8, len: usize) -> bool {
         match self.fault {
             "unlisted-handed-out" => !self.known.is_empty(),
             "listed-not-known" => false,

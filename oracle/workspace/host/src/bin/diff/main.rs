@@ -6,6 +6,7 @@
 //! plants a fault in a stand-in for our library; --answers leaves states and buffers uncompared. Exits with 1
 //! where the two differ, after the shortest run that it can find.
 //! --lines N and --runs N print N lines of such traffic instead, for bench.rs and crates/replay.
+mod allowance;
 mod definition;
 mod inputs;
 mod ours;
@@ -30,6 +31,8 @@ struct Driver {
     kinds: [u64; 4],
     errors: [u64; 12],
     vendor: u64,
+    /// Steps that were allowed for.
+    allowed: u64,
 }
 
 fn main() {
@@ -69,6 +72,7 @@ fn main() {
         kinds: [0; 4],
         errors: [0; 12],
         vendor: 0,
+        allowed: 0,
     };
     let (mut driver, mut listed) = (driver(), driver());
     if lines + runs > 0 {
@@ -80,6 +84,7 @@ fn main() {
     let messages = driver.senders_and_readers();
     let sequences = driver.exhaustive(depth);
     let exhaustive = driver.done;
+    let allowed = driver.allowed;
     driver.random(steps, false);
     let refusals = listed.with_lists(lists);
     println!(
@@ -87,6 +92,10 @@ fn main() {
          {} random steps: no difference",
         if U2F { "with" } else { "without" },
         driver.done - exhaustive
+    );
+    println!(
+        "  allowed for were {allowed} steps of the sequences and {} random ones: unknown commands, told at once",
+        driver.allowed - allowed
     );
     driver.say_answers();
     if lists > 0 {
@@ -150,6 +159,9 @@ impl Driver {
     }
 
     fn exhaustive(&mut self, depth: u32) -> u64 {
+        if depth > 0 {
+            self.each_command(None);
+        }
         let letters = traffic::letters();
         let n = letters.len() as u64;
         let mut sequences = 0;
@@ -209,34 +221,41 @@ impl Driver {
             }
         }
         for number in VENDOR {
-            self.each_command(vec![number]);
-            self.each_command(VENDOR.filter(|other| *other != number).collect());
+            self.each_command(Some(vec![number]));
+            self.each_command(Some(VENDOR.filter(|other| *other != number).collect()));
         }
         self.random(steps, true);
         refusals
     }
 
-    /// A message of one byte with each of the 128 commands.
-    fn each_command(&mut self, list: Vec<u8>) {
+    /// With each of the 128 commands: a message of 1 byte, one of 58, and a first packet that declares too much.
+    fn each_command(&mut self, list: Option<Vec<u8>>) {
         let setup = Setup {
             max: 117,
             allocated: 2,
             slack: 3,
             scribble: 0xee,
-            list: Some(list),
+            list,
         };
         let mut pair = self.pair(&setup);
         let mut run = vec![];
-        for cmd in 0..128 {
-            let mut packet = [0; 64];
-            packet[3..8].copy_from_slice(&[1, 128 | cmd, 0, 1, 0]);
-            run.push(Step {
-                time: 0,
-                disabled: false,
-                packet,
-                answer: 0,
-            });
-            self.step(&mut pair, &setup, &run);
+        for cmd in 128..=255 {
+            for front in [
+                [1, cmd, 0, 1],
+                [1, cmd, 0, 58],
+                [1, 0, 0, 0],
+                [1, cmd, 0, 118],
+            ] {
+                let mut packet = [0; 64];
+                packet[3..7].copy_from_slice(&front);
+                run.push(Step {
+                    time: 0,
+                    disabled: false,
+                    packet,
+                    answer: 0,
+                });
+                self.step(&mut pair, &setup, &run);
+            }
         }
     }
 
@@ -296,6 +315,7 @@ impl Driver {
         if let Some(error) = pair.error() {
             self.errors[error as usize] += 1;
         }
+        self.allowed += pair.was_allowed_for() as u64;
     }
 
     fn say_answers(&self) {

@@ -1,5 +1,6 @@
 //! OpenSK and ours, side by side: each step goes through both, and all that can be seen is compared. A device with a list of
 //! vendor commands, which OpenSK hasn't, is compared with the definition alone.
+use crate::allowance;
 use crate::definition::{BROADCAST, Definition, Effect};
 use crate::ours::{self, ECHO, MESSAGE, NOTHING, Outcome, REPLY};
 use host::{HostEnv, Timer};
@@ -188,6 +189,8 @@ pub struct Pair {
     /// What the authenticator answers: the front of these bytes.
     answers: std::sync::Arc<Vec<u8>>,
     last: Outcome,
+    /// Whether the last step was allowed for.
+    allowed: bool,
 }
 
 macro_rules! same {
@@ -260,6 +263,7 @@ impl Pair {
             answers_only,
             answers: answers.clone(),
             last: Outcome::default(),
+            allowed: false,
         }
     }
 
@@ -272,6 +276,11 @@ impl Pair {
     pub fn error(&self) -> Option<u8> {
         let Outcome { kind, cmd, .. } = self.last;
         (kind == REPLY && cmd == 63).then(|| self.ours.outer_reply.front(1)[0])
+    }
+
+    /// Whether OpenSK was given another packet in the last step.
+    pub fn was_allowed_for(&self) -> bool {
+        self.allowed
     }
 
     /// The bytes taken are owed while a transaction is on; past them, and in the short buffers, anything may stand.
@@ -312,12 +321,18 @@ impl Pair {
         // OpenSK
         self.env.now.0 = *time;
         self.authenticator.reply = self.answers[..step.answer].to_vec();
-        let inner = self
-            .inner
-            .parse_packet(&mut self.env, packet, step.disabled);
+        let [for_inner, for_outer] = [&self.inner, self.outer.oracle_hid()]
+            .map(|hid| allowance::instead(hid, &self.env, step.disabled, packet));
+        assert_eq!(for_inner, for_outer);
+        self.allowed = for_inner.is_some();
+        let inner = self.inner.parse_packet(
+            &mut self.env,
+            for_inner.as_ref().unwrap_or(packet),
+            step.disabled,
+        );
         let outer = self.outer.process_hid_packet(
             &mut self.env,
-            packet,
+            for_outer.as_ref().unwrap_or(packet),
             step.disabled,
             &mut self.authenticator,
         );
