@@ -208,12 +208,14 @@ fn near(random: &mut Random, list: &[u8]) -> u8 {
     }
 }
 
+/// KEEPALIVE, ERROR, and numbers that are nobody's or the vendor's.
+const UNKNOWN: [u8; 7] = [59, 63, 0, 2, 5, 64, 127];
+
 fn any_command(random: &mut Random) -> u8 {
-    match random.below(20) {
-        0 => random.below(128) as u8,
-        _ => random.of(&[
-            1, 1, 1, 3, 3, 4, 4, 6, 6, 8, 8, 16, 16, 17, 59, 63, 0, 2, 5, 64, 127,
-        ]),
+    match random.below(60) {
+        0..3 => random.below(128) as u8,
+        3..22 => random.of(&UNKNOWN),
+        _ => random.of(&[1, 1, 1, 3, 3, 4, 4, 6, 6, 8, 8, 16, 16, 17]),
     }
 }
 
@@ -251,14 +253,32 @@ pub fn wild(random: &mut Random, hid: &CtapHid, list: Option<&[u8]>, time: &mut 
         hid.locked,
         a.cid,
     ]);
-    if a.len > 0 && !random.one_in(7) {
+    // of one that is over, more is to be seen by first packets
+    let others = if *time < a.deadline { 7 } else { 2 };
+    if a.len > 0 && !random.one_in(others) {
         cid = a.cid;
         packet[4] = a.seq as u8;
-        if random.one_in(14) {
+        if random.one_in(12) {
             let seq = a.seq as u8;
-            packet[4] = random.of(&[0, 1, seq + 1, seq.wrapping_sub(1), 127, 0x91, 0x86, 0x81]);
+            packet[4] = random.of(&[
+                0,
+                1,
+                seq + 1,
+                seq.wrapping_sub(1),
+                127,
+                0x91,
+                0x86,
+                0x81,
+                0x82,
+            ]);
             if let (0x81, Some(list)) = (packet[4], list) {
                 packet[4] = 128 | near(random, list);
+            }
+            if packet[4] == 0x82 {
+                let cmd = random.of(&UNKNOWN);
+                let len = length(random, cmd, hid.max as usize);
+                packet[4] = 128 | cmd;
+                packet[5..7].copy_from_slice(&(len as u16).to_be_bytes());
             }
             if packet[4] == 0x86 {
                 packet[5..7].copy_from_slice(&[0, 8]);
@@ -297,6 +317,8 @@ pub struct Hosts {
 struct Host {
     cid: u32,
     bad: bool,
+    /// Sends all of a message that was turned away.
+    stubborn: bool,
     queue: VecDeque<HidPacket>,
 }
 
@@ -306,6 +328,7 @@ impl Hosts {
             .map(|_| Host {
                 cid: BROADCAST,
                 bad: random.one_in(3),
+                stubborn: random.one_in(3),
                 queue: VecDeque::new(),
             })
             .collect();
@@ -329,6 +352,11 @@ impl Hosts {
             self.turn = random.below(self.hosts.len());
         }
         let host = &mut self.hosts[self.turn];
+        let is_on = hid.assembler.len > 0 && hid.assembler.cid == host.cid;
+        let goes_on = host.queue.front().is_some_and(|packet| packet[4] < 128);
+        if goes_on && !is_on && !host.stubborn && random.one_in(4) {
+            host.queue.clear();
+        }
         if host.queue.is_empty() {
             // a host without a channel asks for one; it will be the next
             if host.cid == BROADCAST && hid.allocated != 0 && random.one_in(2) {
@@ -449,8 +477,8 @@ pub fn letters() -> Vec<(u64, bool, HidPacket)> {
         (0, 1, &[0x90, 0, 117, 5]),
         (0, 1, &[0x91, 0, 0]),
         (0, 1, &[0xbb, 0, 1]),
-        (0, 1, &[0xbf, 0, 0]),
-        (0, 1, &[0x82, 0, 0]),
+        (100, 1, &[0xbf, 0, 117]),
+        (0, 1, &[0x82, 0, 118]),
         (0, 1, &[0xc0, 0, 58]),
         // continuations, and the edges of time
         (0, 1, &[0, 6]),
@@ -472,14 +500,14 @@ pub fn letters() -> Vec<(u64, bool, HidPacket)> {
         (999, 2, &[0x81, 0, 0]),
         (1000, 2, &[0x81, 0, 0]),
         // channels that are not there
-        (0, 0, &[0x81, 0, 0]),
+        (0, 0, &[0x82, 0, 58]),
         (0, 0, &[0]),
         (0, 3, &[0x81, 0, 0]),
         (0, 3, &[0]),
     ];
     let off: &[(u64, u32, &[u8])] = &[
         (0, BROADCAST, &[0x86, 0, 8]),
-        (0, 1, &[0x81, 0, 1]),
+        (0, 1, &[0xc0, 0, 58]),
         (0, 1, &[0]),
     ];
     let letter = |disabled: bool, (gap, cid, rest): &(u64, u32, &[u8])| {
