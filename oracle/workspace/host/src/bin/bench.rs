@@ -1,5 +1,9 @@
 //! The bench program, with OpenSK as the device. With `--runs`, as crates/replay reads
 //! it: a line that begins with `=` sets up another device, by its maximum, U2F and count of channels.
+//! What is allowed for is what diff allows for (diff/allowance.rs); how often it was is said to standard error.
+#[path = "diff/allowance.rs"]
+mod allowance;
+
 use host::HostEnv;
 use opensk::ctap::CtapState;
 use opensk::ctap::hid::HidPacket;
@@ -12,11 +16,14 @@ struct Device {
     env: HostEnv,
     authenticator: CtapState<HostEnv>,
     hid: MainHid<HostEnv>,
+    /// Steps that were allowed for.
+    allowed: u64,
 }
 
 fn main() -> std::io::Result<()> {
     let runs = std::env::args().nth(1).is_some_and(|arg| arg == "--runs");
     let mut device = Device::new(7609, 0);
+    let mut allowed = 0;
     let mut out = BufWriter::new(stdout().lock());
     for line in stdin().lock().split(b'\n') {
         let line = line?;
@@ -25,6 +32,7 @@ fn main() -> std::io::Result<()> {
                 let (max, u2f, count) = read(rest).expect("a set-up");
                 assert_eq!(u2f, U2F, "OpenSK is built one way only");
                 let count = u32::from_be_bytes(count[..4].try_into().unwrap());
+                allowed += device.allowed;
                 device = Device::new(max as usize, count);
             }
             _ => match read(&line) {
@@ -33,6 +41,7 @@ fn main() -> std::io::Result<()> {
             },
         }
     }
+    eprintln!("allowed for: {} lines", allowed + device.allowed);
     out.flush()
 }
 
@@ -46,6 +55,7 @@ impl Device {
             env,
             authenticator,
             hid,
+            allowed: 0,
         }
     }
 
@@ -61,9 +71,14 @@ impl Device {
             return writeln!(out, "refused 4");
         }
         self.env.now.0 = time;
-        let replies =
-            self.hid
-                .process_hid_packet(&mut self.env, packet, disabled, &mut self.authenticator);
+        let instead = allowance::instead(self.hid.oracle_hid(), &self.env, disabled, packet);
+        self.allowed += instead.is_some() as u64;
+        let replies = self.hid.process_hid_packet(
+            &mut self.env,
+            instead.as_ref().unwrap_or(packet),
+            disabled,
+            &mut self.authenticator,
+        );
         if let Some((cmd, payload)) = self.authenticator.handed.pop() {
             let space = if payload.is_empty() { "" } else { " " };
             let (cid, cmd) = (hex(&packet[..4]), cmd as u8);
