@@ -106,6 +106,8 @@ pub struct Definition {
 pub struct Effect {
     pub at: usize,
     pub data: std::ops::Range<usize>,
+    /// Whether check 4 has answered InvalidCmd.
+    pub told_at_once: bool,
     pub inner: Outcome,
     pub inner_reply: Vec<u8>,
     pub outer: Outcome,
@@ -191,6 +193,7 @@ impl Definition {
         let mut effect = Effect {
             at: 0,
             data: 0..0,
+            told_at_once: false,
             inner: told(NOTHING, 0, 0, 0),
             inner_reply: vec![],
             outer: told(NOTHING, 0, 0, 0),
@@ -343,6 +346,7 @@ impl Definition {
                 _ => behind.div_ceil(59),
             };
             if unknown {
+                effect.told_at_once = true;
                 error(1);
                 match self.fault {
                     "unknown-begins" if 57 < len && !over => (),

@@ -426,6 +426,10 @@ impl Pair {
         let effect =
             self.definition
                 .step(*time, step.disabled, packet, self.message.front(usize::MAX));
+        // and for what is allowed for: just what it answers at once, and OpenSK would not
+        let declared = u16::from_be_bytes([packet[5], packet[6]]) as usize;
+        let is_late = declared > 57 || declared > self.env.customization.max_msg_size;
+        assert_eq!(effect.told_at_once && is_late, self.allowed, "allowed for");
         if self.answers_only {
             return Ok(our_outer);
         }
