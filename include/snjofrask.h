@@ -79,9 +79,9 @@ extern "C" {
 /* ---- numbers */
 
 /* Of the library: header and archive belong together. */
-#define SNJOFRASK_VERSION "0.6.0"
+#define SNJOFRASK_VERSION "0.7.0"
 #define SNJOFRASK_VERSION_MAJOR 0
-#define SNJOFRASK_VERSION_MINOR 6
+#define SNJOFRASK_VERSION_MINOR 7
 #define SNJOFRASK_VERSION_PATCH 0
 
 /* Limits: bytes and milliseconds. */
@@ -105,7 +105,8 @@ extern "C" {
 /* The channel on which a host asks for one of its own. */
 #define SNJOFRASK_CHANNEL_BROADCAST 0xFFFFFFFF
 
-/* Commands, in the order of CTAP 2.1, section 11.2.9. A device takes any other for ERROR, but for the vendor's. */
+/* Commands, in the order of CTAP 2.1, section 11.2.9. A device takes any other for ERROR, but for the vendor's. ERROR and KEEPALIVE
+ * are no requests: such a message, and a vendor command that set-up doesn't list, is told INVALID_CMD at its first packet. */
 #define SNJOFRASK_CMD_MSG 0x03
 #define SNJOFRASK_CMD_CBOR 0x10
 #define SNJOFRASK_CMD_INIT 0x06
@@ -116,7 +117,7 @@ extern "C" {
 #define SNJOFRASK_CMD_WINK 0x08
 #define SNJOFRASK_CMD_LOCK 0x04
 
-/* Vendor commands, the first and the last. Set-up says which of them a device knows; any other is told INVALID_CMD. */
+/* Vendor commands, the first and the last. Set-up says which of them a device knows. */
 #define SNJOFRASK_CMD_VENDOR_FIRST 0x40
 #define SNJOFRASK_CMD_VENDOR_LAST 0x7F
 

@@ -66,7 +66,8 @@ impl<'b> CtapHid<'b> {
         }
     }
 
-    /// A packet that came at a time. INIT, PING, LOCK, CANCEL, errors and unknown commands are dealt with here.
+    /// A packet that came at a time. INIT, PING, LOCK, CANCEL, errors and unknown commands are dealt with here, the last at
+    /// their first packet.
     /// While the transport is disabled every allocated channel is told that it is busy.
     ///
     /// ```

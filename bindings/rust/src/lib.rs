@@ -9,6 +9,7 @@
 //! - A call that makes no sense is refused: [`Refusal`].
 //! - MSG and CBOR come back to the caller, who sends the whole answer by [`CtapHid::split_message`]. So do the vendor
 //!   commands that are listed at set-up; OpenSK has none.
+//! - A command that the device doesn't know is told so at its first packet, and not when the message is whole.
 //!
 //! A device:
 //!

@@ -303,15 +303,16 @@ fn a_transport_with_vendor_commands() {
         ..known
     };
     let told = CtapHid::error_message(known.cid, CtapHidError::InvalidCmd);
-    // either is dealt with once it is whole
-    for (message, wanted) in [
-        (known, Parsed::Message(known)),
-        (unknown, Parsed::Reply(told)),
+    // the one is handed out when it is whole, the other told so at its first packet
+    for (message, answers) in [
+        (known, [Parsed::Nothing, Parsed::Message(known)]),
+        (unknown, [Parsed::Reply(told), Parsed::Nothing]),
     ] {
         let packets: Vec<_> = CtapHid::split_message(message).collect();
         assert_eq!(packets.len(), 2);
-        assert_eq!(hid.parse_packet(0, &packets[0], false), Ok(Parsed::Nothing));
-        assert_eq!(hid.parse_packet(0, &packets[1], false), Ok(wanted));
+        for (packet, answer) in packets.iter().zip(answers) {
+            assert_eq!(hid.parse_packet(0, packet, false), Ok(answer));
+        }
     }
 }
 
@@ -334,9 +335,9 @@ fn a_vendor_command_ends_a_wink() {
             payload: &[0; 58],
         };
         let packets: Vec<_> = HidPacketIterator::new(message).unwrap().collect();
-        // not before it is whole
+        // when it is whole, or at its first packet where it isn't known
         device.process_hid_packet(0, &packets[0], false).unwrap();
-        assert_eq!(device.should_wink(0), Ok(true));
+        assert_eq!(device.should_wink(0), Ok(number == 64));
         let is_handed_out = matches!(
             device.process_hid_packet(0, &packets[1], false),
             Ok(Processed::Request(request)) if request == message

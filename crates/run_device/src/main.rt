@@ -1,4 +1,5 @@
-// Runs of the device beside the rows of docs/RULES.md: a broadcast INIT that declares 60 bytes, a wink at its end, the packets still due, and vendor commands.
+// Runs of the device beside the rows of docs/RULES.md: a broadcast INIT that declares 60 bytes, a wink at its end, the packets still due, commands that aren't known,
+// and vendor commands.
 // A line has the time, the packet's front and the answer: its payload where it has one.
 use hid::Answer;
 use hid::MainHid;
@@ -22,6 +23,10 @@ fn main() {
                 b"packets still due: one fewer with each that is taken; past the deadline as many until a packet gets to check 3\n",
             );
             counted(hid);
+            text(
+                b"commands that aren't known: told so at the first packet, and no transaction begins\n",
+            );
+            told(hid);
         }
         MainReady::Refused(_) => text(b"refused\n"),
     }
@@ -85,6 +90,68 @@ fn due(hid: MainHid) -> MainHid {
     io::print_decimal(STDOUT_FILENO, transport.still_due as u64);
     text(b"\n");
     hid
+}
+
+// Channels 1 and 2. Command 2 in 129 packets: by itself, under channel 1's own lock, past the deadline of channel 1's CBOR; then inside such a message, beside
+// one, and above the maximum. KEEPALIVE is no request. CANCEL is known, and begins a transaction.
+fn told(fresh: MainHid) {
+    let mut hid = fresh;
+    hid = step(hid, 0, b"\xff\xff\xff\xff\x86\x00\x08");
+    hid = step(hid, 0, b"\xff\xff\xff\xff\x86\x00\x08");
+    hid = unknown(hid, 1);
+    hid = step(hid, 2, b"\x00\x00\x00\x02\x81\x00\x01\xaa");
+    hid = step(hid, 3, b"\x00\x00\x00\x01\x84\x00\x01\x01");
+    hid = unknown(hid, 4);
+    hid = step(hid, 5, b"\x00\x00\x00\x02\x82\x00\x3a");
+    hid = step(hid, 6, b"\x00\x00\x00\x01\x84\x00\x01\x00");
+    hid = step(hid, 10, b"\x00\x00\x00\x01\x90\x00\x3a");
+    hid = unknown(hid, 110);
+    hid = step(hid, 200, b"\x00\x00\x00\x01\x90\x00\x3a");
+    hid = step(hid, 201, b"\x00\x00\x00\x02\x82\x00\x3a");
+    hid = due(step(hid, 202, b"\x00\x00\x00\x01\x82\x00\x3a"));
+    hid = due(step(hid, 203, b"\x00\x00\x00\x01\x82\x1d\xba"));
+    hid = due(step(hid, 204, b"\x00\x00\x00\x01\xbb\x00\x3a"));
+    due(step(hid, 205, b"\x00\x00\x00\x01\x91\x00\x3a"));
+}
+
+// A message of 7,609 bytes with command 2, on channel 1. The first packet is shown as any; of each of the others a '-' where it gets nothing.
+fn unknown(hid: MainHid, time: u64) -> MainHid {
+    let mut next = step(hid, time, b"\x00\x00\x00\x01\x82\x1d\xb9");
+    let mut packet = [0u8; Limits::PACKET_SIZE];
+    let mut message = [0u8; Limits::LARGEST_PAYLOAD];
+    let mut reply = [0u8; Limits::SHORT_REPLY_SIZE];
+    packet[3] = 1;
+    for seq in 0..128u8 {
+        packet[4] = seq;
+        let stepped = next.step(time, false, &packet, &mut message, &mut reply);
+        let answer = stepped.answer;
+        next = stepped.hid;
+        mark(answer);
+    }
+    text(b"\n");
+    next
+}
+
+fn mark(answer: Answer) {
+    match answer {
+        Answer::Nothing => text(b"-"),
+        Answer::Refused(_) => text(b"?"),
+        Answer::Message {
+            cid: _,
+            cmd: _,
+            len: _,
+        } => text(b"!"),
+        Answer::Echo {
+            cid: _,
+            cmd: _,
+            len: _,
+        } => text(b"!"),
+        Answer::Reply {
+            cid: _,
+            cmd: _,
+            len: _,
+        } => text(b"!"),
+    }
 }
 
 fn branded(fresh: MainHid) {

@@ -1,6 +1,7 @@
 -- `on_own` meets its contract. Assumes nothing.
+use borrow.Author.Tests.{eq-eqb, ne-eqb}
 use Rattle.ctaphid.proofs.Tests.{tests}
-use Rattle.receive.proofs.Receiving.{turns}
+use Rattle.receive.proofs.Receiving.{turns, yes-turn, no-turn, own-first, reset-fault}
 use borrow.Author.Needs.{needs}
 use Rattle.receive.proofs.assembler.on_own.Statement.{statement}
 use Rattle.receive.proofs.assembler.on_own.Tie as tie
@@ -36,10 +37,10 @@ same-length : tie.Need-same-length
 same-length c = search needs
 
 returns : tie.Need-returns
-returns c = search (tests, turns)
+returns c = search (eq-eqb, yes-turn, own-first)
 
 returns-2 : tie.Need-returns-2
-returns-2 c = search (tests, turns)
+returns-2 c = search (ne-eqb, no-turn, own-first, reset-fault)
 
 returns-3 : tie.Need-returns-3
 returns-3 c = search (tests, turns)

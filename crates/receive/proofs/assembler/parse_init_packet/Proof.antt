@@ -1,7 +1,7 @@
 -- `parse_init_packet` meets its contract. Assumes nothing.
 use Rattle.ctaphid.specs.Receiver.{startKnown}
 use Rattle.ctaphid.proofs.Tests.{tests}
-use Rattle.receive.proofs.Receiving.{turns}
+use Rattle.receive.proofs.Receiving.{turns, start-unknown}
 use borrow.Author.Needs.{needs}
 use Rattle.receive.proofs.assembler.parse_init_packet.Statement.{statement}
 use Rattle.receive.proofs.assembler.parse_init_packet.Tie as tie
@@ -18,7 +18,10 @@ reset-requires : tie.Need-reset-requires
 reset-requires c κs = search needs
 
 returns : tie.Need-returns
-returns c = search (tests, turns)
+returns c =
+    let at-knows = c .before .before in
+    let a = at-knows .before .before .before .args in
+    start-unknown (a .set) (a .time) (a .cid) (a .cmd) (a .len) (a .«data» .now) (a .message .now) (at-knows .knows .ensures) _ (c .before .if1 .taken) (c .reset .ensures)
 
 cast-if2 : tie.Need-cast-if2
 cast-if2 c = search needs
