@@ -142,7 +142,7 @@ obey d time c WINK payload = next d (request c WINK payload)
 obey d time c LOCK payload = onLock d time c payload
 obey d time c (VENDOR n) payload = next d (request c (VENDOR n) payload)
 
--- §11.2.9.1.6: a command that it doesn't know is told so
+-- §11.2.9.1.6: a command that it doesn't know is told so. The receiver starts no such message (`start`): one comes here only from a transaction that was there already
 unfoldable pub dispatch : Transport → (time channel : ℕ) → Command → List ℕ → Next Transport
 dispatch d time c cmd payload = pick (knows (d .settings) cmd) (obey d time c cmd payload) (next d (error c InvalidCmd))
 
