@@ -48,11 +48,11 @@
  */
 #if defined(__x86_64__) && !defined(__ILP32__) && !defined(_WIN32) && !defined(__CYGWIN__)
 #define SNJOFRASK_ENTRY __attribute__((sysv_abi))
-#define SNJOFRASK_STACK_SIZE 493
+#define SNJOFRASK_STACK_SIZE 496
 #elif defined(__ARM_EABI__) && defined(__thumb2__) && !defined(__ARM_BIG_ENDIAN) && __ARM_ARCH_PROFILE == 'M' && \
     (__ARM_ARCH >= 8 || defined(__ARM_FEATURE_DSP))
 #define SNJOFRASK_ENTRY __attribute__((pcs("aapcs")))
-#define SNJOFRASK_STACK_SIZE 576
+#define SNJOFRASK_STACK_SIZE 584
 #elif defined(__riscv) && __riscv_xlen == 32 && !defined(__riscv_32e) && defined(__riscv_mul) && defined(__riscv_compressed) && \
     defined(__riscv_float_abi_soft)
 #define SNJOFRASK_ENTRY

@@ -19,6 +19,51 @@ use Rattle.ctaphid.proofs.Device.{same-transport}
 use Rattle.ctaphid.proofs.Invariant.{same-settings}
 use Rattle.ctaphid.proofs.Histories.{settings-after}
 
+-- ---- what is known goes by the list's members, and what a receiver makes of a packet by them and the maximum: U2F makes no difference
+module _ (a b : Settings) (same : (n : ℕ) → isIn n (a .vendor) ≡ isIn n (b .vendor)) where
+  pub knows-same : (k : Command) → knows a k ≡ knows b k
+  unfolding knows
+  knows-same MSG = refl
+  knows-same CBOR = refl
+  knows-same INIT = refl
+  knows-same PING = refl
+  knows-same CANCEL = refl
+  knows-same ERROR = refl
+  knows-same KEEPALIVE = refl
+  knows-same WINK = refl
+  knows-same LOCK = refl
+  knows-same (VENDOR n) = same n
+
+  module _ (max : a .maximum ≡ b .maximum) (time : ℕ) where
+    start-same : (c cmd n : ℕ) (field : List ℕ) → start a time c cmd n field ≡ start b time c cmd n field
+    unfolding start
+    start-same c cmd n field = λ i. pick (knows-same (commandOf cmd) i) (startKnown (max i) time c cmd n field) (turn idle (fault InvalidCmd))
+
+    idle-same : (p : Packet) → whenIdle a time p ≡ whenIdle b time p
+    unfolding whenIdle
+    idle-same (initialization c cmd n field) = start-same c cmd n field
+    idle-same (continuation c k field) = refl
+
+    over-same : (t : Transaction) (p : Packet) → whenOver a time t p ≡ whenOver b time t p
+    unfolding whenOver whenIdle
+    over-same t (initialization c cmd n field) = idle-same (initialization c cmd n field)
+    over-same t (continuation c k field) = refl
+
+    own-same : (t : Transaction) (p : Packet) → onOwn a time t p ≡ onOwn b time t p
+    unfolding onOwn
+    own-same t (initialization c cmd n field) = λ i. pick (eqb cmd (number INIT)) (start-same c cmd n field i) (turn idle (fault InvalidSeq))
+    own-same t (continuation c k field) = refl
+
+    busy-same : (t : Transaction) (p : Packet) → whenBusy a time t p ≡ whenBusy b time t p
+    unfolding whenBusy
+    busy-same t p = λ i. pick (eqb (channelOf p) (t .channel)) (own-same t p i) (turn (busy t) (fault ChannelBusy))
+
+    pub receive-same : (r : Receiver) (p : Packet) → receive a time r p ≡ receive b time r p
+    unfolding receive
+    receive-same idle p = idle-same p
+    receive-same (busy t) p = λ i. pick (leb (t .deadline) time) (over-same t p i) (busy-same t p i)
+
+-- ---- a list in place of another
 module _ (l : List ℕ) where
   -- a transport, and where a step leads, with that list
   abbrev pub relisted : Transport → Transport
@@ -45,56 +90,12 @@ module _ (l : List ℕ) where
       both-pick Alike (eqb (length payload) 1) _ _ _ _ (λ e. both-pick Alike (ltb 10 (getD payload 0 0)) _ _ _ _ (λ b. refl) (λ b. refl)) (λ e. refl)
   obey-alike d time c (VENDOR n) payload = refl
 
-  -- ---- what is known, and what a receiver makes of a packet
-  module _ (set : Settings) (same : (n : ℕ) → isIn n l ≡ isIn n (set .vendor)) (time : ℕ) where
-    knows-alike : (k : Command) → knows (listing l set) k ≡ knows set k
-    unfolding knows
-    knows-alike MSG = refl
-    knows-alike CBOR = refl
-    knows-alike INIT = refl
-    knows-alike PING = refl
-    knows-alike CANCEL = refl
-    knows-alike ERROR = refl
-    knows-alike KEEPALIVE = refl
-    knows-alike WINK = refl
-    knows-alike LOCK = refl
-    knows-alike (VENDOR n) = same n
-
-    start-alike : (c cmd n : ℕ) (field : List ℕ) → start (listing l set) time c cmd n field ≡ start set time c cmd n field
-    unfolding start
-    start-alike c cmd n field =
-        ap (λ (b : Bool). pick b (startKnown (set .maximum) time c cmd n field) (turn idle (fault InvalidCmd))) (knows-alike (commandOf cmd))
-
-    idle-alike : (p : Packet) → whenIdle (listing l set) time p ≡ whenIdle set time p
-    unfolding whenIdle
-    idle-alike (initialization c cmd n field) = start-alike c cmd n field
-    idle-alike (continuation c k field) = refl
-
-    over-alike : (t : Transaction) (p : Packet) → whenOver (listing l set) time t p ≡ whenOver set time t p
-    unfolding whenOver whenIdle
-    over-alike t (initialization c cmd n field) = idle-alike (initialization c cmd n field)
-    over-alike t (continuation c k field) = refl
-
-    own-alike : (t : Transaction) (p : Packet) → onOwn (listing l set) time t p ≡ onOwn set time t p
-    unfolding onOwn
-    own-alike t (initialization c cmd n field) = ap (λ (x : Turn). pick (eqb cmd (number INIT)) x (turn idle (fault InvalidSeq))) (start-alike c cmd n field)
-    own-alike t (continuation c k field) = refl
-
-    busy-alike : (t : Transaction) (p : Packet) → whenBusy (listing l set) time t p ≡ whenBusy set time t p
-    unfolding whenBusy
-    busy-alike t p = ap (λ (x : Turn). pick (eqb (channelOf p) (t .channel)) x (turn (busy t) (fault ChannelBusy))) (own-alike t p)
-
-    receive-alike : (r : Receiver) (p : Packet) → receive (listing l set) time r p ≡ receive set time r p
-    unfolding receive
-    receive-alike idle p = idle-alike p
-    receive-alike (busy t) p = λ i. pick (leb (t .deadline) time) (over-alike t p i) (busy-alike t p i)
-
   -- ---- a packet
   module _ (d : Transport) (same : (n : ℕ) → isIn n l ≡ isIn n (d .settings .vendor)) where
     dispatch-alike : (time c : ℕ) (k : Command) (payload : List ℕ) → dispatch (relisted d) time c k payload ≡ relistedNext (dispatch d time c k payload)
     unfolding dispatch
     dispatch-alike time c k payload =
-        ap (λ (b : Bool). pick b (obey (relisted d) time c k payload) (next (relisted d) (error c InvalidCmd))) (knows-alike (d .settings) same time k)
+        ap (λ (b : Bool). pick b (obey (relisted d) time c k payload) (next (relisted d) (error c InvalidCmd))) (knows-same (listing l (d .settings)) (d .settings) same k)
         ∙ both-pick Alike (knows (d .settings) k) _ _ _ _ (λ e. obey-alike d time c k payload) (λ e. refl)
 
   settle-alike : (d : Transport) → ((n : ℕ) → isIn n l ≡ isIn n (d .settings .vendor)) → (time c : ℕ) (b : Reception) → settle (relisted d) time c b ≡ relistedNext (settle d time c b)
@@ -110,7 +111,7 @@ module _ (l : List ℕ) where
       both-pick Alike (isValid (d .allocated) p) _ _ _ _
       (λ v. both-pick Alike (isShut (d .lock) time disabled (channelOf p)) _ _ _ _ (λ e. refl)
       (λ e.
-      ap (λ (x : Turn). settled (relisted d) time (channelOf p) x) (receive-alike (d .settings) same time (d .receiver) p)
+      ap (λ (x : Turn). settled (relisted d) time (channelOf p) x) (receive-same (listing l (d .settings)) (d .settings) same refl time (d .receiver) p)
       ∙ settle-alike (withReceiver d (t .receiver)) same time (channelOf p) (t .reception)))
       (λ v. refl)
 

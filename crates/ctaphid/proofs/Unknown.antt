@@ -29,7 +29,7 @@ unfolding isIn
 in-longer n [] l h = h
 in-longer n (m ∷ front) l h = pick-both (λ (b : Bool). b ≡ true) (eqb n m) _ _ refl (in-longer n front l h)
 
-abbrev bare : Settings → List ℕ
+abbrev pub bare : Settings → List ℕ
 bare set = 1 ∷ 3 ∷ 4 ∷ 6 ∷ 8 ∷ 16 ∷ 17 ∷ set .vendor
 
 known-bare : (set : Settings) (k : Command) → knows set k ≡ true → isIn (number k) (bare set) ≡ true
@@ -59,7 +59,7 @@ module _ (set : Settings) (n : ℕ) where
   unfolding knows
   own-number = own-among commands _ (pick-both Own (isVendor n) _ _ (λ k. refl) (λ k. absurd (true≢false (sym k))))
 
-  known-number : knows set (commandOf n) ≡ true → isIn n (bare set) ≡ true
+  pub known-number : knows set (commandOf n) ≡ true → isIn n (bare set) ≡ true
   known-number h = subst (λ (m : ℕ). isIn m (bare set) ≡ true) (own-number h) (known-bare set (commandOf n) h)
 
 -- ---- a first packet that gets nothing

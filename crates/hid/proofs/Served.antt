@@ -6,19 +6,18 @@ use mathlib.Core.Bool.{Bool, true, false}
 use borrow.Author.Tests.{le-ltb}
 use lib.ListN.{length, take}
 use lib.Seq.{length-take-le}
-use Rattle.ctaphid.specs.Choice.{pick}
-use Rattle.ctaphid.specs.Settings.{knows}
+use Rattle.ctaphid.specs.Choice.{pick, isIn}
 use Rattle.ctaphid.specs.Receiver.{idle, stillDue}
+use Rattle.ctaphid.specs.Settings.{knows}
 use Rattle.ctaphid.specs.Transport as standard
 use Rattle.ctaphid.specs.Transport.{Transport, Lock, Next, next, error, withLock, withAllocated, onInit, onLock, obey, dispatch}
 use Rattle.ctaphid.specs.Commands.{Command, MSG, CBOR, INIT, PING, CANCEL, ERROR, KEEPALIVE, WINK, LOCK, VENDOR, commandOf}
 use Rattle.ctaphid.specs.Errors.{InvalidCmd}
-use Rattle.ctaphid.proofs.Commands.{vendor-range, is-vendor, vendor-read, reads-vendor}
+use Rattle.ctaphid.proofs.Commands.{vendor-range, reads-vendor}
 use Rattle.packet.specs.Numbers.{commandMeant, commandCase}
 use Rattle.packet.specs.declared.command.CtapHidCommand.{CtapHidCommand}
 use Rattle.packet.specs.declared.command.CtapHidCommand.the-variants as command
-use Rattle.settings.specs.declared.Settings.{Settings}
-use Rattle.settings.specs.Meaning as meant
+use Rattle.known.specs.Vendor.{vendorOf}
 use Rattle.receive.specs.declared.MessageAssembler.{MessageAssembler}
 use Rattle.receive.specs.Meaning.{none, receiverOf, assemblerOf}
 use Rattle.answers.specs.declared.Answer.{Answer}
@@ -34,7 +33,7 @@ use Rattle.channels.proofs.Inits.{init-answered, init-any}
 use Rattle.channels.proofs.Locks.{lock-answered, lock-any}
 use Rattle.hid.specs.declared.CtapHid.{CtapHid}
 use Rattle.hid.specs.declared.Stepped.{Stepped}
-use Rattle.hid.specs.Meaning.{settingsIn, settingsOf, transportOf}
+use Rattle.hid.specs.Meaning.{settingsOf, transportOf}
 use Rattle.hid.specs.State.{Serving, serving, servedOf, keeping}
 use Rattle.hid.specs.Commands.{Serves}
 
@@ -196,22 +195,17 @@ module _ (n k : ℕ) (c : CtapHidCommand) (is : commandMeant c ≡ commandOf n) 
   pub vendor-high : k ≤ 127
   vendor-high = range .1
 
--- ---- a vendor command, by whether it is known
-module _ (s : CtapHid) (cid k len : ℕ) (m r : List ℕ) (asks : Serves s len m r) (low : 64 ≤ k) (high : k ≤ 127) {set : Settings} (own : set ≡ settingsIn s) {b : Bool} (is : b ≡ knows (meant.settingsOf set) (commandOf k)) where
-  is-known : knows (settingsOf s) (VENDOR k) ≡ b
-  is-known =
-      ap (knows (settingsOf s)) (vendor-read k (is-vendor k low high))
-      ∙ (ap (λ (x : Settings). knows (meant.settingsOf x) (commandOf k)) (sym own) ∙ sym is)
-
+-- ---- a vendor command, by whether its bit is set
+module _ (s : CtapHid) (cid k len : ℕ) (m r : List ℕ) (asks : Serves s len m r) {b : Bool} (is : b ≡ isIn k (vendorOf (s .vendor))) where
   pub vendor-out : (x : Stepped) → b ≡ true → x ≡ record { hid = s; answer = Message cid (command.Vendor k) len } → serving x r ≡ servedOf s (s .last) (dispatch (transportOf s m) (s .last) cid (VENDOR k) (take len m)) r
-  unfolding dispatch obey pick
+  unfolding dispatch knows obey pick
   vendor-out x t h =
-      simp (is-known ∙ t)
+      simp (sym is ∙ t)
       (ap (λ (y : Stepped). serving y r) h
       ∙ (ap (λ (y : ℕ). serving (record { hid = s; answer = Message cid (command.Vendor k) y }) r) (sym (length-take-le len m (asks .room))) ∙ sym (stays s m r (asks .idle) (asks .due) (standard.request cid (VENDOR k) (take len m)))))
 
   pub vendor-off : (v : Serving) → b ≡ false → v ≡ keeping s (error cid InvalidCmd) r → v ≡ servedOf s (s .last) (dispatch (transportOf s m) (s .last) cid (VENDOR k) (take len m)) r
-  unfolding dispatch pick
-  vendor-off v t h = simp (is-known ∙ t) (h ∙ sym (stays s m r (asks .idle) (asks .due) (error cid InvalidCmd)))
+  unfolding dispatch knows pick
+  vendor-off v t h = simp (sym is ∙ t) (h ∙ sym (stays s m r (asks .idle) (asks .due) (error cid InvalidCmd)))
 
 pub ruleset commands = (tells-msg, tells-cbor, tells-wink, tells-ping, tells-cancel, tells-error, tells-keepalive, tells-init, tells-lock, tells-vendor)

@@ -7,9 +7,9 @@ use mathlib.Core.Bool.{Bool, true, false, not}
 use borrow.Author.Tests.{lt-ltb, le-ltb}
 use lib.Dec.{ltb}
 use Rattle.ctaphid.specs.Choice.{pick}
-use Rattle.settings.specs.declared.vendor.Listed.{Listed}
-use Rattle.settings.specs.declared.vendor.Listed.the-variants.{Bits, Foreign}
-use Rattle.settings.specs.Vendor.{allVendor, bitsOf, listedOf}
+use Rattle.known.specs.declared.vendor.Listed.{Listed}
+use Rattle.known.specs.declared.vendor.Listed.the-variants.{Bits, Foreign}
+use Rattle.known.specs.Vendor.{allVendor, bitsOf, listedOf}
 use Rattle.hid.specs.declared.CtapHid.{CtapHid}
 use Rattle.hid.specs.declared.Ready.{Ready}
 use Rattle.hid.specs.declared.Ready.the-variants as transport

@@ -3,22 +3,17 @@ use Prim.Native.Nat.{ℕ}
 use mathlib.Core.List.{List}
 use mathlib.Core.Bool.{not}
 use lib.Dec.{eqb}
-use Rattle.ctaphid.specs.Settings as set
+use Rattle.ctaphid.specs.Settings.{Settings}
 use Rattle.ctaphid.specs.Receiver.{stillDue}
 use Rattle.ctaphid.specs.Transport as standard
 use Rattle.ctaphid.specs.Device.{Device, device}
-use Rattle.settings.specs.declared.Settings.{Settings}
-use Rattle.settings.specs.Meaning as meant
+use Rattle.known.specs.Vendor.{vendorOf}
 use Rattle.receive.specs.Meaning.{receiverOf, assemblerOf}
 use Rattle.hid.specs.declared.CtapHid.{CtapHid}
 use Rattle.hid.specs.declared.MainHid.{MainHid}
 
--- the settings in a state
-abbrev pub settingsIn : CtapHid → Settings
-settingsIn s = record { vendor = s .vendor; max = s .max; u2f = not (eqb (s .u2f) 0) }
-
-abbrev pub settingsOf : CtapHid → set.Settings
-settingsOf s = meant.settingsOf (settingsIn s)
+abbrev pub settingsOf : CtapHid → Settings
+settingsOf s = record { maximum = s .max; u2f = not (eqb (s .u2f) 0); vendor = vendorOf (s .vendor) }
 
 abbrev pub transportOf : CtapHid → (message : List ℕ) → standard.Transport
 transportOf s m =

@@ -5,7 +5,7 @@ use mathlib.Core.Bool.{Bool, cond, not}
 use lib.Dec.{ltb}
 use Rattle.ctaphid.specs.Choice.{refusing}
 use Rattle.ctaphid.specs.Limits.{largest}
-use Rattle.settings.specs.Vendor.{allVendor, bitsOf}
+use Rattle.known.specs.Vendor.{allVendor, bitsOf}
 use Rattle.receive.specs.Meaning.{none}
 use Rattle.hid.specs.declared.CtapHid.{CtapHid}
 use Rattle.hid.specs.declared.MainHid.{MainHid}

@@ -4,7 +4,6 @@ use crate::CtapHid;
 use crate::Stepped;
 use crate::state::error_message;
 use crate::state::no_message;
-use crate::state::settings;
 use packet::CtapHidCommand;
 use packet::CtapHidError;
 ghost use mathlib.Core.Path.{_≡_};
@@ -65,8 +64,7 @@ fn vendor(
     requires { ⌜ Serves hid len (now message) (now reply) × (64 ≤ number) × (number ≤ 127) ⌝ }
     ensures { λ r. ⌜ serving r (now (reply .exit)) ≡ servedOf hid (hid .last) (dispatch (transportOf hid (now (message .entry))) (hid .last) cid (VENDOR number) (take len (now (message .entry)))) (now (reply .entry)) ⌝ }
 {
-    let set = settings(hid);
-    if set.knows(number) {
+    if known::is_allowed(hid.vendor, number) {
         return hand_out(hid, cid, CtapHidCommand::Vendor(number), len);
     }
     error_message(hid, cid, CtapHidError::INVALID_CMD, reply)

@@ -6,7 +6,6 @@ use crate::due::still_due;
 use crate::state::at_time;
 use crate::state::error_message;
 use crate::state::no_message;
-use crate::state::settings;
 use crate::state::with_assembler;
 use packet::CtapHidError;
 use packet::ProcessedPacket;
@@ -107,8 +106,7 @@ fn serve(
     ensures { λ r. ⌜ stepping r (now (message .exit)) (now (reply .exit)) ≡ steppingOf (servedOf hid time (serve (transportOf hid (now (message .entry))) time (heard packet (now («data» .entry)))) (now (reply .entry))) (buffered (receive (settingsOf hid) time (receiverOf (hid .assembler) (now (message .entry))) (heard packet (now («data» .entry)))) (now (message .entry))) ⌝ }
 {
     let assembler = hid.assembler;
-    let set = settings(hid);
-    let assembled = assembler.parse_packet(set, time, packet, data, message);
+    let assembled = assembler.parse_packet(hid.max, hid.vendor, time, packet, data, message);
     let due = still_due(assembled.assembler);
     let next = with_assembler(hid, time, assembled.assembler, due);
     let received = assembled.received;

@@ -4,9 +4,9 @@ use crate::MainHid;
 use crate::MainReady;
 use crate::MessageAssembler;
 use crate::Ready;
+use known::Listed;
 use packet::Limits;
 use packet::Refusal;
-use settings::Listed;
 ghost use mathlib.Core.Path.{_≡_};
 ghost use Rattle.hid.specs.SetUp.{freshWith, newOf, mainNewOf};
 
@@ -19,7 +19,7 @@ impl CtapHid {
         if max > Limits::LARGEST_PAYLOAD {
             return Ready::Refused(Refusal::MAXIMUM);
         }
-        match settings::read_list(vendor) {
+        match known::read_list(vendor) {
             Listed::Bits(bits) => Ready::Hid(fresh(max as u32, u2f, bits)),
             Listed::Foreign => Ready::Refused(Refusal::VENDOR),
         }

@@ -1,16 +1,14 @@
-// A state with another time or transaction, its settings, and answers that leave it as it is.
+// A state with another time or transaction, and answers that leave it as it is.
 use crate::Answer;
 use crate::CtapHid;
 use crate::MessageAssembler;
 use crate::Stepped;
-use settings::Settings;
 ghost use mathlib.Core.Path.{_≡_};
 ghost use mathlib.Core.List.{[], _∷_};
 ghost use Prim.Native.Nat.{_≤_};
 ghost use lib.ListN.{length};
 ghost use Rattle.ctaphid.specs.Commands.{ERROR};
 ghost use Rattle.ctaphid.specs.Transport as standard;
-ghost use Rattle.hid.specs.Meaning.{settingsIn};
 ghost use Rattle.hid.specs.State.{having, arriving, serving, keeping};
 
 // The time is now the last one. What stands in an assembler without a transaction is cleared.
@@ -38,16 +36,6 @@ pub(crate) fn with_assembler(
     next.last = last;
     next.still_due = due;
     next
-}
-
-pub(crate) fn settings(hid: CtapHid) -> Settings
-    ensures { λ r. ⌜ r ≡ settingsIn hid ⌝ }
-{
-    Settings {
-        vendor: hid.vendor,
-        max: hid.max,
-        u2f: hid.u2f != 0,
-    }
 }
 
 pub(crate) fn no_message(hid: CtapHid) -> Stepped

@@ -37,7 +37,7 @@ use Rattle.hid.specs.declared.CtapHid.{CtapHid}
 use Rattle.hid.specs.declared.MainHid.{MainHid}
 use Rattle.hid.specs.Meaning.{settingsOf, transportOf, deviceOf, stateOf}
 use Rattle.hid.specs.Soundness.{Placed, Sound}
-use Rattle.settings.specs.Vendor.{vendorOf, allVendor, bitsOf}
+use Rattle.known.specs.Vendor.{vendorOf, allVendor, bitsOf}
 use Rattle.hid.specs.declared.Ready.the-variants as ready
 use Rattle.hid.specs.declared.MainReady.the-variants as mainReady
 use Rattle.hid.specs.SetUp.{setUpRefusals, newOf, mainNewOf}
@@ -46,7 +46,7 @@ use Rattle.hid.specs.Hearing.{Stepping, stepping, messageAfter, heardOf}
 use Rattle.hid.specs.Refusals.{refusals}
 use Rattle.hid.specs.Transport.{admittedOf}
 use Rattle.hid.specs.MainHid.{MainStepping, mainStepping, mainHeardOf, mainStepOf}
-use Rattle.settings.proofs.Bits.{all-vendor-of, leaves-just-the-list}
+use Rattle.known.proofs.Bits.{all-vendor-of, leaves-just-the-list}
 use Rattle.hid.proofs.Counting.{due-0, due-back}
 use Rattle.hid.proofs.Sound.{is-sound}
 use Rattle.hid.proofs.Heard.{holds-is}

@@ -4,11 +4,8 @@ use borrow.Author.Needs.{needs}
 use Rattle.hid.proofs.commands.vendor.Statement.{statement}
 use Rattle.hid.proofs.commands.vendor.Tie as tie
 
-settings-requires : tie.Need-settings-requires
-settings-requires c κs = search needs
-
-knows-requires : tie.Need-knows-requires
-knows-requires c κs = search needs
+is-allowed-requires : tie.Need-is-allowed-requires
+is-allowed-requires c κs = search needs
 
 hand-out-requires : tie.Need-hand-out-requires
 hand-out-requires c κs = search needs
@@ -29,8 +26,7 @@ pub vendor-spec : {M : Type 1} → statement M
 vendor-spec =
     tie.close
     (tie.spec
-    settings-requires
-    knows-requires
+    is-allowed-requires
     hand-out-requires
     returns
     error-message-requires

@@ -1,9 +1,9 @@
 -- `bit_of` meets its contract. Assumes nothing.
 use native.Mathlib.Omega.{arith}
-use Rattle.settings.proofs.Bits.{shifted}
+use Rattle.known.proofs.Bits.{shifted}
 use borrow.Author.Needs.{needs}
-use Rattle.settings.proofs.vendor.bit_of.Statement.{statement}
-use Rattle.settings.proofs.vendor.bit_of.Tie as tie
+use Rattle.known.proofs.vendor.bit_of.Statement.{statement}
+use Rattle.known.proofs.vendor.bit_of.Tie as tie
 
 sub-result : tie.Need-sub-result
 sub-result c = search needs

@@ -16,8 +16,8 @@ use Rattle.ctaphid.specs.Choice.{pick, isIn}
 use Rattle.ctaphid.specs.Commands.{isVendor}
 use Rattle.ctaphid.proofs.Tests.{pick-true, pick-known}
 use Rattle.ctaphid.proofs.Commands.{vendor-range, is-vendor}
-use Rattle.settings.specs.declared.vendor.Listed.the-variants.{Bits, Foreign}
-use Rattle.settings.specs.Vendor.{hasBit, setAmong, vendorOf, allVendor, bitOf, bitsWith, bitsOf, listedOf, LeavesJustTheList}
+use Rattle.known.specs.declared.vendor.Listed.the-variants.{Bits, Foreign}
+use Rattle.known.specs.Vendor.{hasBit, setAmong, vendorOf, allVendor, bitOf, bitsWith, bitsOf, listedOf, LeavesJustTheList}
 
 -- ---- bits
 
@@ -180,10 +180,16 @@ leaves-just-the-list l all = record { members = λ n. members n; room = below-64
 pub shifted : (n : ℕ) → n ≤ 127 → (1 * 2 ^ (n - 64)) % 2 ^ 64 ≡ bitOf n
 shifted n high = shl-exact 1 (n - 64) 64 (lit< tt) (omega arith) ∙ one-mul (2 ^ (n - 64))
 
--- a bit, tested
-pub tested : (bits n : ℕ) → 64 ≤ n → n ≤ 127 → eqb (bitAnd (bits / 2 ^ (n - 64)) 1) 1 ≡ isIn n (vendorOf bits)
-unfolding hasBit
-tested bits n low high = ap (λ (x : ℕ). eqb x 1) (and-mask (bits / 2 ^ (n - 64)) 1) ∙ sym (allowed-is bits n low high)
+-- a bit, tested; and a number that isn't the vendor's
+module _ (bits n : ℕ) {b : Bool} (is : b ≡ isVendor n) where
+  pub tested : b ≡ true → eqb (bitAnd (bits / 2 ^ (n - 64)) 1) 1 ≡ isIn n (vendorOf bits)
+  unfolding hasBit
+  tested e =
+      let range = vendor-range n (sym is ∙ e) in
+      ap (λ (x : ℕ). eqb x 1) (and-mask (bits / 2 ^ (n - 64)) 1) ∙ sym (allowed-is bits n (range .0) (range .1))
+
+  pub not-tested : b ≡ false → false ≡ isIn n (vendorOf bits)
+  not-tested e = sym (among-none bits n 64 64 (λ low high. true≢false (sym (is-vendor n low (omega arith)) ∙ (sym is ∙ e))))
 
 -- along a list, place by place
 module _ (l : List ℕ) (i : ℕ) (h : i < length l) where

@@ -5,12 +5,12 @@ use mathlib.Core.Path.{_≡_, refl, sym, ap, _∙_}
 use lib.Bits.{bitOr}
 use lib.ListN.{length, drop}
 use Rattle.ctaphid.proofs.Commands.{vendor-range}
-use Rattle.settings.specs.Vendor.{allVendor, bitsWith, bitsOf}
-use Rattle.settings.specs.declared.vendor.Listed.the-variants.{Bits}
-use Rattle.settings.proofs.Bits.{vendor-next, vendor-not, vendor-end, bits-next, bits-end, listed-all, listed-not}
+use Rattle.known.specs.Vendor.{allVendor, bitsWith, bitsOf}
+use Rattle.known.specs.declared.vendor.Listed.the-variants.{Bits}
+use Rattle.known.proofs.Bits.{vendor-next, vendor-not, vendor-end, bits-next, bits-end, listed-all, listed-not}
 use borrow.Author.Needs.{needs}
-use Rattle.settings.proofs.vendor.read_list.Statement.{statement}
-use Rattle.settings.proofs.vendor.read_list.Tie as tie
+use Rattle.known.proofs.vendor.read_list.Statement.{statement}
+use Rattle.known.proofs.vendor.read_list.Tie as tie
 
 abbrev Inv-loop : tie.InvT-loop
 Inv-loop numbers bits₀ i₀ bits i = (i ≤ length numbers) × (allVendor (drop i numbers) ≡ allVendor numbers) × (bitsWith bits (drop i numbers) ≡ bitsOf numbers)

@@ -3,7 +3,7 @@ use packet::CtapHidCommand;
 ghost use mathlib.Core.Path.{_≡_};
 ghost use Prim.Native.Nat.{_≤_};
 ghost use Rattle.ctaphid.specs.Choice.{isIn};
-ghost use Rattle.settings.specs.Vendor.{vendorOf, bitOf, listedOf};
+ghost use Rattle.known.specs.Vendor.{vendorOf, bitOf, listedOf};
 
 // A list's bits, or that it has a number that isn't the vendor's.
 pub enum Listed {
@@ -35,10 +35,12 @@ fn bit_of(number: u8) -> u64
     1u64 << (number - CtapHidCommand::VENDOR_FIRST)
 }
 
-// Whether a number of the vendor's has its bit among these.
-pub(crate) fn is_allowed(bits: u64, number: u8) -> bool
-    requires { ⌜ (64 ≤ number) × (number ≤ 127) ⌝ }
+// Whether a number is the vendor's and has its bit among these.
+pub fn is_allowed(bits: u64, number: u8) -> bool
     ensures { λ r. ⌜ r ≡ isIn number (vendorOf bits) ⌝ }
 {
-    (bits >> (number - CtapHidCommand::VENDOR_FIRST)) & 1 == 1
+    if CtapHidCommand::is_vendor(number) {
+        return (bits >> (number - CtapHidCommand::VENDOR_FIRST)) & 1 == 1;
+    }
+    false
 }

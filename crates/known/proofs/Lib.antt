@@ -1,3 +1,3 @@
 pub mod Bits
-pub mod Knowing
+pub mod Requests
 pub mod Unique

@@ -7,8 +7,8 @@ use lib.Bits.{bitOr}
 use lib.Dec.{eqb}
 use Rattle.ctaphid.specs.Choice.{pick, isIn}
 use Rattle.ctaphid.specs.Commands.{isVendor}
-use Rattle.settings.specs.declared.vendor.Listed.{Listed}
-use Rattle.settings.specs.declared.vendor.Listed.the-variants.{Bits, Foreign}
+use Rattle.known.specs.declared.vendor.Listed.{Listed}
+use Rattle.known.specs.declared.vendor.Listed.the-variants.{Bits, Foreign}
 
 -- ---- what the bits mean
 
