@@ -93,7 +93,8 @@ fn due(hid: MainHid) -> MainHid {
 }
 
 // Channels 1 and 2. Command 2 in 129 packets: by itself, under channel 1's own lock, past the deadline of channel 1's CBOR; then inside such a message, beside
-// one, and above the maximum. KEEPALIVE is no request. CANCEL is known, and begins a transaction.
+// one, and above the maximum. KEEPALIVE is no request. CANCEL is known, and begins a transaction; as one of command 2 it is told so
+// when it is whole.
 fn told(fresh: MainHid) {
     let mut hid = fresh;
     hid = step(hid, 0, b"\xff\xff\xff\xff\x86\x00\x08");
@@ -111,7 +112,19 @@ fn told(fresh: MainHid) {
     hid = due(step(hid, 202, b"\x00\x00\x00\x01\x82\x00\x3a"));
     hid = due(step(hid, 203, b"\x00\x00\x00\x01\x82\x1d\xba"));
     hid = due(step(hid, 204, b"\x00\x00\x00\x01\xbb\x00\x3a"));
-    due(step(hid, 205, b"\x00\x00\x00\x01\x91\x00\x3a"));
+    hid = due(step(hid, 205, b"\x00\x00\x00\x01\x91\x00\x3a"));
+    due(step(of_command_2(hid), 206, b"\x00\x00\x00\x01\x00"));
+}
+
+// The same state, but its transaction is one of command 2: only a caller can bring it along.
+fn of_command_2(hid: MainHid) -> MainHid {
+    let mut transport = hid.hid;
+    let mut assembler = transport.assembler;
+    assembler.cmd = 2;
+    transport.assembler = assembler;
+    let mut brought = hid;
+    brought.hid = transport;
+    brought
 }
 
 // A message of 7,609 bytes with command 2, on channel 1. The first packet is shown as any; of each of the others a '-' where it gets nothing.
