@@ -1,4 +1,4 @@
-// The commands that a device knows. OpenSK knows them all by its table: it answers an unknown one when the message is whole.
+// The commands that a device knows. OpenSK has no such test: there an unknown command is told so when its message is whole.
 mod vendor;
 
 use packet::CtapHidCommand;
