@@ -10,11 +10,11 @@ use Rattle.ctaphid.specs.Demands.{standard, Permitted, Taken, latest, after, Ag
 use Rattle.ctaphid.proofs.Forgetting.{forgotten, is-on-forgets}
 use Rattle.ctaphid.proofs.Listing.{relisted, after-alike, answer-alike}
 use Rattle.ctaphid.proofs.Carried.{delivery-carried}
-use Rattle.ctaphid.proofs.CarriedBounds.{none-shut-out-carried, none-shut-out-by-unknown-carried, transactions-end-carried, locks-end-carried}
+use Rattle.ctaphid.proofs.CarriedBounds.{none-shut-out-carried, unknown-told-carried, none-shut-out-by-unknown-carried, transactions-end-carried, locks-end-carried}
 use Rattle.hid.specs.Meaning.{transportOf}
 use Rattle.runs.specs.Steps.{Comes}
 use Rattle.runs.specs.Lending.{Lends}
-use Rattle.runs.specs.Share.{Held, Caller, answerIn, code, LendsWell, CodeGivesShare, CodeShutsNoneOutByUnknown}
+use Rattle.runs.specs.Share.{Held, Caller, answerIn, code, LendsWell, CodeGivesShare, CodeTellsUnknownAtOnce, CodeShutsNoneOutByUnknown}
 use Rattle.runs.proofs.Refines.{meant, fresh-means, same-members, set-up-taken, leaves}
 use Rattle.runs.proofs.Following.{Follows, answers-alike, follows-on}
 
@@ -84,6 +84,9 @@ code-gives-share lent well = record {
   locks = locks-end-carried (code lent) (agrees lent well) (answers lent well);
   shutOut = none-shut-out-carried (code lent) (agrees lent well);
 }
+
+pub code-tells-unknown-at-once : CodeTellsUnknownAtOnce
+code-tells-unknown-at-once lent well = unknown-told-carried (code lent) (agrees lent well)
 
 pub code-shuts-none-out-by-unknown : CodeShutsNoneOutByUnknown
 code-shuts-none-out-by-unknown lent well = none-shut-out-by-unknown-carried (code lent) (agrees lent well)

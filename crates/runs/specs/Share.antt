@@ -3,7 +3,7 @@ use mathlib.Core.List.{List, [], _∷_}
 use Rattle.ctaphid.specs.Settings.{Settings}
 use Rattle.ctaphid.specs.Receiver.{isOn}
 use Rattle.ctaphid.specs.Transport.{Event, Answer, nothing, Next, next, isLockedBy}
-use Rattle.ctaphid.specs.Demands.{AnyDevice, Permitted, Taken, after, NoneShutOutByUnknown, GivesShare}
+use Rattle.ctaphid.specs.Demands.{AnyDevice, Permitted, Taken, after, UnknownToldAtOnce, NoneShutOutByUnknown, GivesShare}
 use Rattle.answers.specs.Answers.{Said, refused, answered}
 use Rattle.hid.specs.declared.CtapHid.{CtapHid}
 use Rattle.hid.specs.Meaning.{transportOf}
@@ -49,6 +49,9 @@ LendsWell lent =
 abbrev pub CodeGivesShare : Type 0
 CodeGivesShare = (lent : Caller) → LendsWell lent → GivesShare (code lent)
 
--- and that an unknown command never makes another channel busy
+-- and that an unknown command is told so at its first packet, and never makes another channel busy
+abbrev pub CodeTellsUnknownAtOnce : Type 0
+CodeTellsUnknownAtOnce = (lent : Caller) → LendsWell lent → UnknownToldAtOnce (code lent)
+
 abbrev pub CodeShutsNoneOutByUnknown : Type 0
 CodeShutsNoneOutByUnknown = (lent : Caller) → LendsWell lent → NoneShutOutByUnknown (code lent)
