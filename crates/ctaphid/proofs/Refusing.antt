@@ -2,11 +2,11 @@
 use Prim.Native.Nat.{ℕ}
 use mathlib.Core.Path.{_≡_, refl, sym, ap}
 use mathlib.Core.List.{List, [], _∷_}
-use mathlib.Core.Bool.{Bool, true, false, not, cond, true≢false}
+use mathlib.Core.Bool.{Bool, true, false, cond, true≢false}
 use borrow.Author.Tests.{eqb-false}
 use lib.Dec.{eqb}
 use Rattle.ctaphid.specs.Choice.{pick, refusing}
-use Rattle.ctaphid.proofs.Tests.{pick-both}
+use Rattle.ctaphid.proofs.Tests.{pick-known}
 
 -- the first number, or 0
 abbrev pub firstOf : List (Bool × ℕ) → ℕ
@@ -47,7 +47,20 @@ unfolding pick
 none-refuse f [] a p = refl
 none-refuse f ((test, number) ∷ rest) a p = simp (p .0) (none-refuse f rest a (p .1))
 
--- what holds however it ends
+-- what holds of each number that may refuse
+abbrev pub Each : (P : ℕ → Type 0) → List (Bool × ℕ) → Type 0
+Each P [] = Unit {0}
+Each P ((test, number) ∷ rest) = P number × Each P rest
+
+-- what holds of each refusal, and of the answer where no test holds, holds however it ends
+pub each-way : {A : Type 0} (P : A → Type 0) (f : ℕ → A) (tests : List (Bool × ℕ)) (a : A) → Each (λ n. P (f n)) tests → (Passed tests → P a) → P (refusing f tests a)
+each-way P f [] a refused p = p tt
+each-way P f ((test, number) ∷ rest) a refused p =
+    pick-known P test (f number) _ (λ e. refused .0) (λ e. each-way P f rest a (refused .1) (λ passed. p (e, passed)))
+
 pub either-way : {A : Type 0} (P : A → Type 0) (f : ℕ → A) (tests : List (Bool × ℕ)) (a : A) → ((n : ℕ) → P (f n)) → P a → P (refusing f tests a)
-either-way P f [] a refused p = p
-either-way P f ((test, number) ∷ rest) a refused p = pick-both P test (f number) _ (refused number) (either-way P f rest a refused p)
+either-way P f tests a refused p = each-way P f tests a (all tests) (λ passed. p)
+  where
+    all : (tests : List (Bool × ℕ)) → Each (λ n. P (f n)) tests
+    all [] = tt
+    all ((test, number) ∷ rest) = (refused number, all rest)

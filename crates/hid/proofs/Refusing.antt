@@ -60,14 +60,9 @@ module _ (s : CtapHid) (wink time until : ℕ) (b : Bool) (e : b ≡ isSound s w
   running-sound r k h = simp (sym e ∙ k) h
 
 -- ---- none refuses
-module _ (s : CtapHid) (wink time : ℕ) (p m r : List ℕ) (n : ℕ) (e : n ≡ refusalOf s wink time (length p) (length m) (length r)) (none : n ≡ 0) where
-  pub tests-passed : Passed (refusals s wink time (length p) (length m) (length r))
-  unfolding refusalOf
-  tests-passed = passed (refusals s wink time (length p) (length m) (length r)) refl (sym none ∙ e)
-
-  pub admits-is : Sound s wink × Admits s time p m × (17 ≤ length r)
-  admits-is =
-      let g = tests-passed in
+module _ (s : CtapHid) (wink time : ℕ) (p m r : List ℕ) where
+  pub admits-passed : Passed (refusals s wink time (length p) (length m) (length r)) → Sound s wink × Admits s time p m × (17 ≤ length r)
+  admits-passed g =
       let sound : Sound s wink = sound-is s wink (not-false (isSound s wink) (g .1 .1 .1 .0)) in (
         sound,
         record {
@@ -90,6 +85,14 @@ module _ (s : CtapHid) (wink time : ℕ) (p m r : List ℕ) (n : ℕ) (e : n ≡
         },
         ltb-false (length r) 17 (g .1 .1 .0),
       )
+
+  module _ (n : ℕ) (e : n ≡ refusalOf s wink time (length p) (length m) (length r)) (none : n ≡ 0) where
+    pub tests-passed : Passed (refusals s wink time (length p) (length m) (length r))
+    unfolding refusalOf
+    tests-passed = passed (refusals s wink time (length p) (length m) (length r)) refl (sym none ∙ e)
+
+    pub admits-is : Sound s wink × Admits s time p m × (17 ≤ length r)
+    admits-is = admits-passed tests-passed
 
 -- ---- a step
 module _ (s : CtapHid) (wink time : ℕ) (disabled : Bool) (p m r : List ℕ) {n : ℕ} (e : n ≡ refusalOf s wink time (length p) (length m) (length r)) where

@@ -1,5 +1,6 @@
 pub mod Refines
 pub mod Disabled
+pub mod Echoes
 pub mod Following
 pub mod Runs
 pub mod Shared

@@ -2,7 +2,7 @@
 use Prim.Native.Nat.{ℕ, _+_, _≤_, _<_}
 use native.Mathlib.Omega.{arith}
 use mathlib.Core.Path.{_≡_, refl, sym, ap, subst, _∙_}
-use mathlib.Core.List.{List}
+use mathlib.Core.List.{List, []}
 use mathlib.Core.Bool.{Bool, true, false, not, cond, true≢false}
 use borrow.Author.Tests.{eq-eqb, ne-eqb, eqb-false, le-ltb}
 use lib.Dec.{eqb, ltb}
@@ -85,49 +85,71 @@ stands-already s wink m h room =
     let size : length (take (s .assembler .taken) m) ≡ s .assembler .taken = length-take-le (s .assembler .taken) m (omega (arith, t .lengths .below, t .lengths .bytes, t .lengths .within)) in
     (omega (arith, t .lengths .long), ap (λ (n : ℕ). take n m) size))
 
--- ---- an answer's payload is where the code says
-abbrev Carried : standard.Answer → List ℕ → Type 0
-Carried nothing m = Unit {0}
-Carried (reply c k payload) m = isEcho k ≡ true → take (length payload) m ≡ payload
-Carried (request c k payload) m = take (length payload) m ≡ payload
+-- ---- an answer's payload is where the code says, and no longer than the maximum
 
-said-back : (a : standard.Answer) (m r : List ℕ) → Carried a m → said (answerOf a) m (replied a r) ≡ answered a
-said-back nothing m r h = refl
-said-back (reply c k payload) m r h = by-kind (isEcho k) h
+-- so of a payload that is echoed or handed out
+abbrev pub Carried : (P : List ℕ → Type 0) → standard.Answer → Type 0
+Carried P nothing = Unit {0}
+Carried P (reply c k payload) = isEcho k ≡ true → P payload
+Carried P (request c k payload) = P payload
+
+abbrev pub Lies : (max : ℕ) → (m payload : List ℕ) → Type 0
+Lies max m payload = (take (length payload) m ≡ payload) × (length payload ≤ max)
+
+said-back : (max : ℕ) (a : standard.Answer) (m r : List ℕ) → Carried (Lies max m) a → said (answerOf a) m (replied a r) ≡ answered a
+said-back max nothing m r h = refl
+said-back max (reply c k payload) m r h = by-kind (isEcho k) h
   where
-    by-kind : (b : Bool) → (b ≡ true → take (length payload) m ≡ payload)
+    by-kind : (b : Bool) → (b ≡ true → Lies max m payload)
         → said (cond b (Echo c (commandCase k) (length payload)) (Reply c (commandCase k) (length payload))) m (cond b r (front payload r)) ≡ answered (reply c k payload)
-    by-kind true f = rw (meant-case k) (ap (λ (y : List ℕ). answered (reply c k y)) (f refl))
+    by-kind true f = rw (meant-case k) (ap (λ (y : List ℕ). answered (reply c k y)) (f refl .0))
     by-kind false f = rw (meant-case k) (ap (λ (y : List ℕ). answered (reply c k y)) (at-front payload r))
-said-back (request c k payload) m r h = rw (meant-case k) (ap (λ (y : List ℕ). answered (request c k y)) h)
+said-back max (request c k payload) m r h = rw (meant-case k) (ap (λ (y : List ℕ). answered (request c k y)) (h .0))
 
 no-echo : {A : Type 0} → false ≡ true → A
 no-echo e = absurd (true≢false (sym e))
 
-carried-obey : (d : Transport) (time c : ℕ) (k : Command) (payload m : List ℕ) → take (length payload) m ≡ payload → Carried (obey d time c k payload .answer) m
-unfolding obey onInit onLock
-carried-obey d time c MSG payload m h = h
-carried-obey d time c CBOR payload m h = h
-carried-obey d time c INIT payload m h =
-    pick-both (λ (n : Next Transport). Carried (n .answer) m) (eqb (length payload) 8) _ _ (pick-both (λ (n : Next Transport). Carried (n .answer) m) (eqb c 0xffff_ffff) _ _ no-echo no-echo) no-echo
-carried-obey d time c PING payload m h = λ e. h
-carried-obey d time c CANCEL payload m h = tt
-carried-obey d time c ERROR payload m h = tt
-carried-obey d time c KEEPALIVE payload m h = tt
-carried-obey d time c WINK payload m h = h
-carried-obey d time c LOCK payload m h =
-    pick-both (λ (n : Next Transport). Carried (n .answer) m) (eqb (length payload) 1) _ _ (pick-both (λ (n : Next Transport). Carried (n .answer) m) (ltb 10 (getD payload 0 0)) _ _ no-echo no-echo) no-echo
-carried-obey d time c (VENDOR n) payload m h = h
+-- what holds of a whole message holds of what is carried
+module _ (P : List ℕ → Type 0) where
+  abbrev Right : Next Transport → Type 0
+  Right n = Carried P (n .answer)
 
-carried-dispatch : (d : Transport) (time c : ℕ) (k : Command) (payload m : List ℕ) → take (length payload) m ≡ payload → Carried (dispatch d time c k payload .answer) m
-unfolding dispatch
-carried-dispatch d time c k payload m h = pick-both (λ (n : Next Transport). Carried (n .answer) m) (knows (d .settings) k) _ _ (carried-obey d time c k payload m h) no-echo
+  carried-obey : (d : Transport) (time c : ℕ) (k : Command) (payload : List ℕ) → P payload → Right (obey d time c k payload)
+  unfolding obey onInit onLock
+  carried-obey d time c MSG payload h = h
+  carried-obey d time c CBOR payload h = h
+  carried-obey d time c INIT payload h = pick-both Right (eqb (length payload) 8) _ _ (pick-both Right (eqb c 0xffff_ffff) _ _ no-echo no-echo) no-echo
+  carried-obey d time c PING payload h = λ e. h
+  carried-obey d time c CANCEL payload h = tt
+  carried-obey d time c ERROR payload h = tt
+  carried-obey d time c KEEPALIVE payload h = tt
+  carried-obey d time c WINK payload h = h
+  carried-obey d time c LOCK payload h = pick-both Right (eqb (length payload) 1) _ _ (pick-both Right (ltb 10 (getD payload 0 0)) _ _ no-echo no-echo) no-echo
+  carried-obey d time c (VENDOR n) payload h = h
 
-carried-settle : (d : Transport) (max n time c : ℕ) (rcv : Receiver) (b : Reception) (m : List ℕ) → Tells max n rcv b → Carried (settle (withReceiver d rcv) time c b .answer) (bufferOf rcv b m)
+  carried-dispatch : (d : Transport) (time c : ℕ) (k : Command) (payload : List ℕ) → P payload → Right (dispatch d time c k payload)
+  unfolding dispatch
+  carried-dispatch d time c k payload h = pick-both Right (knows (d .settings) k) _ _ (carried-obey d time c k payload h) no-echo
+
+  carried-not-valid : (p : Packet) → Carried P (notValid p)
+  carried-not-valid (initialization c cmd n field) = no-echo
+  carried-not-valid (continuation c k field) = tt
+
+  pub carried-above : (time wink : ℕ) (d : Transport) (a : standard.Answer) → P [] → Carried P a → Carried P (answeredAbove time wink d a .answer)
+  unfolding answeredAbove onRequest onWink onMsg
+  carried-above time wink d nothing empty h = tt
+  carried-above time wink d (reply c k payload) empty h = h
+  carried-above time wink d (request c k payload) empty h =
+      pick-both Above (eqb (number k) 8) _ _ (pick-both Above (eqb (length payload) 0) _ _ (λ e. empty) no-echo) (pick-both Above (eqb (number k) 3) _ _ (pick-both Above (d .settings .u2f) _ _ h no-echo) h)
+    where
+      Above : Next Device → Type 0
+      Above n = Carried P (n .answer)
+
+carried-settle : (d : Transport) (max n time c : ℕ) (rcv : Receiver) (b : Reception) (m : List ℕ) → Tells max n rcv b → Carried (Lies max (bufferOf rcv b m)) (settle (withReceiver d rcv) time c b .answer)
 unfolding settle
 carried-settle d max n time c rcv silent m h = tt
 carried-settle d max n time c rcv (fault e) m h = no-echo
-carried-settle d max n time c idle (whole own cmd payload) m h = carried-dispatch (withReceiver d idle) time own (commandOf cmd) payload (front payload m) (at-front payload m)
+carried-settle d max n time c idle (whole own cmd payload) m h = carried-dispatch (Lies max (front payload m)) (withReceiver d idle) time own (commandOf cmd) payload (at-front payload m, h .1)
 carried-settle d max n time c (busy t) (whole own cmd payload) m h = absurd (omega (arith, ap isBusy (h .0)))
   where
     isBusy : Receiver → ℕ
@@ -142,10 +164,6 @@ same-receiver d time c (fault e) = refl
 same-receiver d time c (whole own cmd payload) =
     keeps-dispatch (λ (y : Transport). y .receiver ≡ d .receiver) d time own payload refl (commandOf cmd) (λ e. refl) (λ e h. refl)
 
-carried-not-valid : (p : Packet) (m : List ℕ) → Carried (notValid p) m
-carried-not-valid (initialization c cmd n field) m = no-echo
-carried-not-valid (continuation c k field) m = tt
-
 -- ---- both, for a packet that is heard
 module _ (s : CtapHid) (wink time : ℕ) (disabled : Bool) (p : Packet) (m : List ℕ) (sound : Sound s wink) (room : s .max ≤ length m) (later : s .last ≤ time) (formed : Formed p) where
   abbrev d : Transport
@@ -154,10 +172,10 @@ module _ (s : CtapHid) (wink time : ℕ) (disabled : Bool) (p : Packet) (m : Lis
   holds : Holds d time
   holds = holds-later d (s .last) time later (holds-is s wink m sound room)
 
-  abbrev Right : Next Transport → List ℕ → Type 0
-  Right n m′ = Stands (n .state .receiver) m′ × Carried (n .answer) m′
+  abbrev RightIn : Next Transport → List ℕ → Type 0
+  RightIn n m′ = Stands (n .state .receiver) m′ × Carried (Lies (s .max) m′) (n .answer)
 
-  served-right : isValid (s .allocated) p ≡ true → Right (serve d time p) (buffered (receive (settingsOf s) time (receiverOf (s .assembler) m) p) m)
+  served-right : isValid (s .allocated) p ≡ true → RightIn (serve d time p) (buffered (receive (settingsOf s) time (receiverOf (s .assembler) m) p) m)
   served-right valid =
       let t : Turn = receive (settingsOf s) time (receiverOf (s .assembler) m) p in
       let ts = turns-valid d time p holds formed valid in (
@@ -165,12 +183,12 @@ module _ (s : CtapHid) (wink time : ℕ) (disabled : Bool) (p : Packet) (m : Lis
         carried-settle d (s .max) (s .allocated) time (channelOf p) (t .receiver) (t .reception) m (ts .tells),
       )
 
-  heard-right : Right (hear d time disabled p) (messageAfter s time disabled p m)
+  pub heard-right : RightIn (hear d time disabled p) (messageAfter s time disabled p m)
   unfolding hear messageAfter
   heard-right =
-      both-pick Right (isValid (s .allocated) p) _ _ _ _
-      (λ valid. both-pick Right (isShut (d .lock) time disabled (channelOf p)) _ _ _ _ (λ e. (already, no-echo)) (λ e. served-right valid))
-      (λ valid. (already, carried-not-valid p m))
+      both-pick RightIn (isValid (s .allocated) p) _ _ _ _
+      (λ valid. both-pick RightIn (isShut (d .lock) time disabled (channelOf p)) _ _ _ _ (λ e. (already, no-echo)) (λ e. served-right valid))
+      (λ valid. (already, carried-not-valid (Lies (s .max) m) p))
     where
       already : Stands (d .receiver) m
       already = stands-already s wink m sound room
@@ -263,7 +281,7 @@ module _ (s : CtapHid) (e : Event) (b : Buffers) (sound : Sound s 0) (comes : Co
   unfolding heardOf servedOf
   refined = record {
     state = state-back s 0 (e .time) (e .disabled) p m sound (roomy .message) (comes .later) (formed s 0 e b sound comes roomy);
-    answer = said-back (step (transportOf s m) e .answer) (messageAfter s (e .time) (e .disabled) p m) (b .short) (heard-right s 0 (e .time) (e .disabled) p m sound (roomy .message) (comes .later) (formed s 0 e b sound comes roomy) .1);
+    answer = said-back (s .max) (step (transportOf s m) e .answer) (messageAfter s (e .time) (e .disabled) p m) (b .short) (heard-right s 0 (e .time) (e .disabled) p m sound (roomy .message) (comes .later) (formed s 0 e b sound comes roomy) .1);
   }
 
   stays-sound : Sound (Heard .stepped .hid) 0
@@ -322,16 +340,6 @@ set-up-taken set p =
     }
 
 -- ---- the device's step
-carried-above : (time wink : ℕ) (d : Transport) (a : standard.Answer) (m : List ℕ) → Carried a m → Carried (answeredAbove time wink d a .answer) m
-unfolding answeredAbove onRequest onWink onMsg
-carried-above time wink d nothing m h = tt
-carried-above time wink d (reply c k payload) m h = h
-carried-above time wink d (request c k payload) m h =
-    pick-both Right (eqb (number k) 8) _ _ (pick-both Right (eqb (length payload) 0) _ _ (λ e. refl) no-echo) (pick-both Right (eqb (number k) 3) _ _ (pick-both Right (d .settings .u2f) _ _ h no-echo) h)
-  where
-    Right : Next Device → Type 0
-    Right n = Carried (n .answer) m
-
 wink-bound : (time wink : ℕ) (d : Transport) (a : standard.Answer) → wink ≤ time + 5000 → answeredAbove time wink d a .state .wink ≤ time + 5000
 unfolding answeredAbove onRequest onWink onMsg
 wink-bound time wink d nothing h = h
@@ -378,7 +386,7 @@ module _ (o : MainHid) (e : Event) (b : Buffers) (sound : Sound (o .hid) (o .win
       let right = heard-right (o .hid) (o .wink) (e .time) (e .disabled) q l sound (roomy .message) (comes .later) formed-is .1 in
       record {
         state = λ i. device (back i) (led .state .wink);
-        answer = said-back (led .answer) kept (b .short) (carried-above (e .time) (o .wink) (below .state) (below .answer) kept right);
+        answer = said-back (o .hid .max) (led .answer) kept (b .short) (carried-above (Lies (o .hid .max) kept) (e .time) (o .wink) (below .state) (below .answer) (refl, omega arith) right);
       }
 
   main-stays-sound : Sound (MainHeard .stepped .hid .hid) (MainHeard .stepped .hid .wink)

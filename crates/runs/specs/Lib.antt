@@ -1,5 +1,6 @@
 pub mod Steps
 pub mod Lending
+pub mod Echoes
 pub mod Share
 pub mod Callers
 pub mod HostSteps
