@@ -79,9 +79,9 @@ extern "C" {
 /* ---- numbers */
 
 /* Of the library: header and archive belong together. */
-#define SNJOFRASK_VERSION "0.7.0"
+#define SNJOFRASK_VERSION "0.8.0"
 #define SNJOFRASK_VERSION_MAJOR 0
-#define SNJOFRASK_VERSION_MINOR 7
+#define SNJOFRASK_VERSION_MINOR 8
 #define SNJOFRASK_VERSION_PATCH 0
 
 /* Limits: bytes and milliseconds. */
@@ -147,7 +147,7 @@ extern "C" {
 #define SNJOFRASK_REFUSAL_MAXIMUM 5          /* set-up with a maximum above 7,609 */
 #define SNJOFRASK_REFUSAL_INDEX 6            /* a packet index at or past the count */
 #define SNJOFRASK_REFUSAL_LONG_PAYLOAD 7     /* a payload of over 7,609 bytes */
-#define SNJOFRASK_REFUSAL_LONG_PING 8        /* no entry gives it: a device's maximum keeps PINGs shorter */
+/* 8 is not used again. It was for a PING too long to be echoed, and no step can have one. */
 #define SNJOFRASK_REFUSAL_SEQUENCE 9         /* host: a wrong number, or a first packet inside a reply */
 #define SNJOFRASK_REFUSAL_LONG_REPLY 10      /* host: a reply that the buffer can't hold, or a KEEPALIVE not of 1 byte */
 #define SNJOFRASK_REFUSAL_NOT_INIT 11        /* host: not a reply to INIT, or one below 17 or above 7,609 bytes */

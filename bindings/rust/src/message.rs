@@ -212,8 +212,7 @@ pub enum Refusal {
     Index = 6,
     /// A payload of more than [`LARGEST_PAYLOAD`](crate::LARGEST_PAYLOAD) bytes.
     LongPayload = 7,
-    /// A PING that is too long to be echoed. None that a device takes is.
-    LongPing = 8,
+    // 8 is not used again: it was for a PING too long to be echoed, and no step can have one
     /// Host: a packet with a wrong number, or a first packet inside a reply.
     Sequence = 9,
     /// Host: a reply that the buffer can't hold, or a KEEPALIVE not of one byte.
@@ -238,7 +237,6 @@ impl Refusal {
             5 => Refusal::Maximum,
             6 => Refusal::Index,
             7 => Refusal::LongPayload,
-            8 => Refusal::LongPing,
             9 => Refusal::Sequence,
             10 => Refusal::LongReply,
             11 => Refusal::NotInit,
@@ -259,7 +257,6 @@ impl core::fmt::Display for Refusal {
             Refusal::Maximum => "a maximum above 7,609 bytes",
             Refusal::Index => "a packet past the last",
             Refusal::LongPayload => "a payload above 7,609 bytes",
-            Refusal::LongPing => "a PING above 7,609 bytes",
             Refusal::Sequence => "a packet out of order",
             Refusal::LongReply => "a reply that the buffer can't hold",
             Refusal::NotInit => "not a reply to INIT",

@@ -9,19 +9,12 @@ use denote.Triple.Clauses.{Lasts}
 use Rattle.outcome.specs.One.{OneOutcome, OneOutcomeFrom, from-facts}
 use Rattle.answers.specs.Replies.{Answering}
 use Rattle.answers.proofs.replies.error_message as error-message
-use Rattle.answers.proofs.replies.echo as echo
 use Rattle.answers.proofs.payloads.payload as payload
 
 pub error-message-one : OneOutcome error-message.ended (λ M 𝓤. error-message.clauses 𝓤) (λ M 𝓤. error-message.spec 𝓤)
 error-message-one = record {
   stated = λ M 𝓤 H A mem run. refl;
   one = λ 𝓤 H A mem run κs a g x y v w. from-facts 𝓤 (λ p q. (ap (λ (o : Answering). o .answer) (p ∙ sym q), λ i. (tt, (tt, ((p ∙ sym q) i .reply, tt)))));
-}
-
-pub echo-one : OneOutcome echo.ended (λ M 𝓤. echo.clauses 𝓤) (λ M 𝓤. echo.spec 𝓤)
-echo-one = record {
-  stated = λ M 𝓤 H A mem run. refl;
-  one = λ 𝓤 H A mem run κs a g x y v w. from-facts 𝓤 (λ p q. (p ∙ sym q, refl));
 }
 
 -- where the payload lies, and what it is

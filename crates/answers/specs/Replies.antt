@@ -5,12 +5,11 @@ use mathlib.Core.Bool.{Bool, false, not}
 use lib.ListN.{length}
 use lib.Dec.{ltb}
 use Rattle.ctaphid.specs.Choice.{pick, refusing}
-use Rattle.ctaphid.specs.Limits.{largest, shortReply}
+use Rattle.ctaphid.specs.Limits.{shortReply}
 use Rattle.ctaphid.specs.Transport as standard
 use Rattle.ctaphid.specs.Transport.{nothing, reply, request}
-use Rattle.packet.specs.declared.command.CtapHidCommand.the-variants.{Ping}
 use Rattle.answers.specs.declared.Answer.{Answer}
-use Rattle.answers.specs.declared.Answer.the-variants.{Refused, Echo}
+use Rattle.answers.specs.declared.Answer.the-variants.{Refused}
 use Rattle.answers.specs.Answers.{isEcho, answerOf, replied}
 
 -- all that a call leaves: its answer, and the short buffer
@@ -33,7 +32,3 @@ laidOf a r =
     refusing (λ number. answering (Refused number) r)
     ((pick (isShort a) (ltb (length r) shortReply) false, 2) ∷ [])
     (answering (answerOf a) (replied a r))
-
--- refusal 8: a PING to be echoed has over 7,609 bytes
-unfoldable pub echoOf : (cid len : ℕ) → Answer
-echoOf cid len = refusing Refused ((ltb largest len, 8) ∷ []) (Echo cid Ping len)

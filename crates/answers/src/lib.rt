@@ -4,7 +4,6 @@ mod replies;
 
 use packet::CtapHidCommand;
 pub use payloads::payload;
-pub use replies::echo;
 pub use replies::error_message;
 
 // A payload is the first len bytes of the message buffer or of the short reply buffer.

@@ -7,7 +7,7 @@ ghost use mathlib.Core.Path.{_≡_};
 ghost use mathlib.Core.List.{[], _∷_};
 ghost use Rattle.ctaphid.specs.Commands.{ERROR};
 ghost use Rattle.ctaphid.specs.Transport as standard;
-ghost use Rattle.answers.specs.Replies.{answering, laidOf, echoOf};
+ghost use Rattle.answers.specs.Replies.{answering, laidOf};
 
 // An ERROR. A short reply buffer of fewer than 17 bytes is refused with 2.
 pub fn error_message(cid: u32, error: u8, reply: &mut [u8]) -> Answer
@@ -21,19 +21,5 @@ pub fn error_message(cid: u32, error: u8, reply: &mut [u8]) -> Answer
         cid,
         cmd: CtapHidCommand::Error,
         len: 1,
-    }
-}
-
-// A received PING is its own reply. One that is too long to be sent is refused with 8.
-pub fn echo(cid: u32, len: usize) -> Answer
-    ensures { λ r. ⌜ r ≡ echoOf cid len ⌝ }
-{
-    if len > Limits::LARGEST_PAYLOAD {
-        return Answer::Refused(Refusal::LONG_PING);
-    }
-    Answer::Echo {
-        cid,
-        cmd: CtapHidCommand::Ping,
-        len,
     }
 }

@@ -1,8 +1,8 @@
--- Refusals: a call that is wrong gets a number, and alters nothing. They are ours, not the standard's: the table of docs/RULES.md, in its order. Assumes nothing.
+-- Refusals: a call that is wrong gets a number, and alters nothing. They are ours, not the standard's: the table of docs/RULES.md, in its order. 8 is not used again (DECISIONS 47). Assumes nothing.
 use Prim.Native.Nat.{ℕ}
 
 pub data Refusal : Type 0 where
-  PacketSize ShortBuffer Unsound Time Maximum Index LongPayload LongPing Sequence LongReply NotInit Command Vendor : Refusal
+  PacketSize ShortBuffer Unsound Time Maximum Index LongPayload Sequence LongReply NotInit Command Vendor : Refusal
 
 abbrev pub refusalNumber : Refusal → ℕ
 -- the packet slice, read or written, isn't 64 bytes
@@ -19,8 +19,6 @@ refusalNumber Maximum = 5
 refusalNumber Index = 6
 -- a payload to be split has over 7,609 bytes
 refusalNumber LongPayload = 7
--- a PING to be echoed has over 7,609 bytes
-refusalNumber LongPing = 8
 -- host: wrong number, or a first packet inside a reply
 refusalNumber Sequence = 9
 -- host: a KEEPALIVE's declared length isn't 1, or another command's is above 7,609 or the host buffer

@@ -181,7 +181,6 @@ module _ (s : CtapHid) (time : ℕ) (m r : List ℕ) (c : ℕ) (a : Assembled) (
         count = h .count;
         early = early;
         room = omega (arith, size);
-        most = omega (arith, tells .1, h .maximum);
         short = short;
       })
 

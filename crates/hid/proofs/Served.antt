@@ -3,7 +3,6 @@ use Prim.Native.Nat.{ℕ, _≤_}
 use mathlib.Core.Path.{_≡_, refl, sym, ap, _∙_}
 use mathlib.Core.List.{List}
 use mathlib.Core.Bool.{Bool, true, false}
-use borrow.Author.Tests.{le-ltb}
 use lib.ListN.{length, take}
 use lib.Seq.{length-take-le}
 use Rattle.ctaphid.specs.Choice.{pick, isIn}
@@ -23,7 +22,7 @@ use Rattle.receive.specs.Meaning.{none, receiverOf, assemblerOf}
 use Rattle.answers.specs.declared.Answer.{Answer}
 use Rattle.answers.specs.declared.Answer.the-variants.{Nothing, Message, Echo}
 use Rattle.answers.specs.Answers.{answerOf, replied}
-use Rattle.answers.specs.Replies.{Answering, answering, laidOf, echoOf}
+use Rattle.answers.specs.Replies.{Answering, answering, laidOf}
 use Rattle.answers.proofs.Laying.{laid-roomy}
 use Rattle.channels.specs.declared.Allocated.{Allocated}
 use Rattle.channels.specs.declared.Locked.{Locked}
@@ -154,12 +153,11 @@ module _ (s : CtapHid) (cid n len : ℕ) (m r : List ℕ) (asks : Serves s len m
   unfolding dispatch knows obey pick
   tells-wink x e h = handed WINK x refl (ap commandMeant e) h
 
-  pub tells-ping : (a : Answer) → c ≡ command.Ping → a ≡ echoOf cid len → serving (record { hid = s; answer = a }) r ≡ servedOf s (s .last) (told (commandOf n)) r
-  unfolding dispatch knows obey echoOf pick
-  tells-ping a e h =
+  pub tells-ping : c ≡ command.Ping → serving (record { hid = s; answer = Echo cid command.Ping len }) r ≡ servedOf s (s .last) (told (commandOf n)) r
+  unfolding dispatch knows obey pick
+  tells-ping e =
       reads-as PING _ (ap commandMeant e)
-      (ap (λ (t : Answer). serving (record { hid = s; answer = t }) r) (h ∙ simp (le-ltb 7609 len (asks .most)) (ap (Echo cid command.Ping) (sym size)))
-      ∙ sym (stays s m r (asks .idle) (asks .due) (standard.reply cid PING (take len m))))
+      (ap (λ (t : ℕ). serving (record { hid = s; answer = Echo cid command.Ping t }) r) (sym size) ∙ sym (stays s m r (asks .idle) (asks .due) (standard.reply cid PING (take len m))))
 
   pub tells-cancel : (x : Stepped) → c ≡ command.Cancel → x ≡ record { hid = s; answer = Nothing } → serving x r ≡ servedOf s (s .last) (told (commandOf n)) r
   unfolding dispatch knows obey pick

@@ -13,5 +13,4 @@ pub record Serves (s : CtapHid) (len : ℕ) (m r : List ℕ) : Type 0 where
   pub count : s .allocated ≤ 0xffff_fffe
   pub early : s .last ≤ 0xffff_ffff_ffff
   pub room : len ≤ length m
-  pub most : len ≤ 7609
   pub short : 17 ≤ length r

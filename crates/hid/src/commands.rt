@@ -32,7 +32,11 @@ pub(crate) fn preprocess_message(
         CtapHidCommand::Init => init(hid, cid, len, message, reply),
         CtapHidCommand::Ping => Stepped {
             hid,
-            answer: answers::echo(cid, len),
+            answer: Answer::Echo {
+                cid,
+                cmd: CtapHidCommand::Ping,
+                len,
+            },
         },
         CtapHidCommand::Cancel => no_message(hid),
         CtapHidCommand::Wink => hand_out(hid, cid, CtapHidCommand::Wink, len),

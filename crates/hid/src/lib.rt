@@ -13,7 +13,6 @@ mod state;
 mod transport;
 
 pub use answers::Answer;
-pub use answers::echo;
 pub use answers::payload;
 pub use receive::MessageAssembler;
 

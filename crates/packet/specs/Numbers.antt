@@ -10,7 +10,7 @@ use Rattle.packet.specs.declared.error.CtapHidError.the-variants.{Invali
 use Rattle.packet.specs.declared.capability.Capability.{Capability}
 use Rattle.packet.specs.declared.capability.Capability.the-variants.{Wink as HasWink, Cbor as HasCbor, Nmsg}
 use Rattle.packet.specs.declared.refusal.Refusal.{Refusal}
-use Rattle.packet.specs.declared.refusal.Refusal.the-variants.{PacketSize, ShortBuffer, Unsound, Time, Maximum, Index, LongPayload, LongPing, Sequence, LongReply, NotInit, Command, Vendor as NotVendor}
+use Rattle.packet.specs.declared.refusal.Refusal.the-variants.{PacketSize, ShortBuffer, Unsound, Time, Maximum, Index, LongPayload, Sequence, LongReply, NotInit, Command, Vendor as NotVendor}
 
 abbrev pub commandMeant : CtapHidCommand → standard.Command
 commandMeant Msg = standard.MSG
@@ -59,7 +59,6 @@ refusalMeant Time = refusals.Time
 refusalMeant Maximum = refusals.Maximum
 refusalMeant Index = refusals.Index
 refusalMeant LongPayload = refusals.LongPayload
-refusalMeant LongPing = refusals.LongPing
 refusalMeant Sequence = refusals.Sequence
 refusalMeant LongReply = refusals.LongReply
 refusalMeant NotInit = refusals.NotInit

@@ -1,4 +1,4 @@
-// The refusals, and the number of each: a call that is wrong gets it, and alters nothing.
+// The refusals, and the number of each: a call that is wrong gets it, and alters nothing. 8 is not used again.
 ghost use mathlib.Core.Path.{_≡_};
 ghost use Rattle.ctaphid.specs.Refusals.{refusalNumber};
 ghost use Rattle.packet.specs.Numbers.{refusalMeant};
@@ -11,7 +11,6 @@ pub enum Refusal {
     Maximum,
     Index,
     LongPayload,
-    LongPing,
     Sequence,
     LongReply,
     NotInit,
@@ -34,8 +33,6 @@ impl Refusal {
 
     pub const LONG_PAYLOAD: u8 = 7;
 
-    pub const LONG_PING: u8 = 8;
-
     pub const SEQUENCE: u8 = 9;
 
     pub const LONG_REPLY: u8 = 10;
@@ -57,7 +54,6 @@ impl Refusal {
             Refusal::Maximum => Self::MAXIMUM,
             Refusal::Index => Self::INDEX,
             Refusal::LongPayload => Self::LONG_PAYLOAD,
-            Refusal::LongPing => Self::LONG_PING,
             Refusal::Sequence => Self::SEQUENCE,
             Refusal::LongReply => Self::LONG_REPLY,
             Refusal::NotInit => Self::NOT_INIT,

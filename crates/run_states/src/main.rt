@@ -1,4 +1,4 @@
-// Steps from states that are not sound, each beside its sound neighbour; then the order of refusals, times, set-up and echo.
+// Steps from states that are not sound, each beside its sound neighbour; then the order of refusals, times and set-up.
 // A line has the step's answer, the question's, and whether the state and both buffers are as they came: of the transport, then of
 // the device. The packet always writes to a buffer, so a step that is taken alters something.
 use hid::Answer;
@@ -41,8 +41,6 @@ fn main() {
     set_up(7609, b"\x80");
     set_up(7609, b"\x40\x00\x7f");
     set_up(7610, b"\x3f");
-    echo(7609);
-    echo(7610);
 }
 
 // Two channels, and no transaction or lock.
@@ -297,14 +295,6 @@ fn set_up(max: usize, vendor: &[u8]) {
         MainReady::Hid(_) => text(b" fresh"),
         MainReady::Refused(number) => refused(number),
     }
-    text(b"\n");
-}
-
-fn echo(len: usize) {
-    text(b"echo of ");
-    io::print_decimal(STDOUT_FILENO, len as u64);
-    text(b":");
-    show(hid::echo(1, len));
     text(b"\n");
 }
 

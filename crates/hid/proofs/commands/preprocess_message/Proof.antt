@@ -28,9 +28,6 @@ init-requires c κs = search needs
 enum-told-4 : tie.Need-enum-told-4
 enum-told-4 c = search needs
 
-echo-requires : tie.Need-echo-requires
-echo-requires c κs = search needs
-
 enum-told-5 : tie.Need-enum-told-5
 enum-told-5 c = search needs
 
@@ -124,7 +121,6 @@ preprocess-message-spec =
     enum-told-3
     init-requires
     enum-told-4
-    echo-requires
     enum-told-5
     no-message-requires
     enum-told-6
