@@ -153,11 +153,12 @@ module _ (s : CtapHid) (cid n len : ℕ) (m r : List ℕ) (asks : Serves s len m
   unfolding dispatch knows obey pick
   tells-wink x e h = handed WINK x refl (ap commandMeant e) h
 
-  pub tells-ping : c ≡ command.Ping → serving (record { hid = s; answer = Echo cid command.Ping len }) r ≡ servedOf s (s .last) (told (commandOf n)) r
+  pub tells-ping : (x : Stepped) → c ≡ command.Ping → x ≡ record { hid = s; answer = Echo cid command.Ping len } → serving x r ≡ servedOf s (s .last) (told (commandOf n)) r
   unfolding dispatch knows obey pick
-  tells-ping e =
+  tells-ping x e h =
       reads-as PING _ (ap commandMeant e)
-      (ap (λ (t : ℕ). serving (record { hid = s; answer = Echo cid command.Ping t }) r) (sym size) ∙ sym (stays s m r (asks .idle) (asks .due) (standard.reply cid PING (take len m))))
+      (ap (λ (t : Stepped). serving t r) h
+      ∙ (ap (λ (t : ℕ). serving (record { hid = s; answer = Echo cid command.Ping t }) r) (sym size) ∙ sym (stays s m r (asks .idle) (asks .due) (standard.reply cid PING (take len m)))))
 
   pub tells-cancel : (x : Stepped) → c ≡ command.Cancel → x ≡ record { hid = s; answer = Nothing } → serving x r ≡ servedOf s (s .last) (told (commandOf n)) r
   unfolding dispatch knows obey pick
