@@ -60,39 +60,38 @@ module _ (s : CtapHid) (wink time until : ℕ) (b : Bool) (e : b ≡ isSound s w
   running-sound r k h = simp (sym e ∙ k) h
 
 -- ---- none refuses
-module _ (s : CtapHid) (wink time : ℕ) (p m r : List ℕ) where
-  pub admits-passed : Passed (refusals s wink time (length p) (length m) (length r)) → Sound s wink × Admits s time p m × (17 ≤ length r)
-  admits-passed g =
-      let sound : Sound s wink = sound-is s wink (not-false (isSound s wink) (g .1 .1 .1 .0)) in (
-        sound,
-        record {
-          size = eqb-true (length p) packetSize (not-false (eqb (length p) packetSize) (g .0));
-          room = ltb-false (length m) (s .max) (g .1 .0);
-          sound = record {
-            maximum = sound .maximum;
-            count = sound .count;
-            last = sound .last;
-            deadline = sound .deadline;
-            lock = sound .lock;
-            wink = omega arith;
-            holder = sound .holder;
-            transaction = sound .transaction;
-            due = sound .due;
-            channel = sound .channel;
-          };
-          early = ltb-false lastTime time (g .1 .1 .1 .1 .0);
-          later = ltb-false time (s .last) (g .1 .1 .1 .1 .1 .0);
-        },
-        ltb-false (length r) 17 (g .1 .1 .0),
-      )
+pub admits-passed : (s : CtapHid) (wink time : ℕ) (p m r : List ℕ) → Passed (refusals s wink time (length p) (length m) (length r)) → Sound s wink × Admits s time p m × (17 ≤ length r)
+admits-passed s wink time p m r g =
+    let sound : Sound s wink = sound-is s wink (not-false (isSound s wink) (g .1 .1 .1 .0)) in (
+      sound,
+      record {
+        size = eqb-true (length p) packetSize (not-false (eqb (length p) packetSize) (g .0));
+        room = ltb-false (length m) (s .max) (g .1 .0);
+        sound = record {
+          maximum = sound .maximum;
+          count = sound .count;
+          last = sound .last;
+          deadline = sound .deadline;
+          lock = sound .lock;
+          wink = omega arith;
+          holder = sound .holder;
+          transaction = sound .transaction;
+          due = sound .due;
+          channel = sound .channel;
+        };
+        early = ltb-false lastTime time (g .1 .1 .1 .1 .0);
+        later = ltb-false time (s .last) (g .1 .1 .1 .1 .1 .0);
+      },
+      ltb-false (length r) 17 (g .1 .1 .0),
+    )
 
-  module _ (n : ℕ) (e : n ≡ refusalOf s wink time (length p) (length m) (length r)) (none : n ≡ 0) where
-    pub tests-passed : Passed (refusals s wink time (length p) (length m) (length r))
-    unfolding refusalOf
-    tests-passed = passed (refusals s wink time (length p) (length m) (length r)) refl (sym none ∙ e)
+module _ (s : CtapHid) (wink time : ℕ) (p m r : List ℕ) (n : ℕ) (e : n ≡ refusalOf s wink time (length p) (length m) (length r)) (none : n ≡ 0) where
+  pub tests-passed : Passed (refusals s wink time (length p) (length m) (length r))
+  unfolding refusalOf
+  tests-passed = passed (refusals s wink time (length p) (length m) (length r)) refl (sym none ∙ e)
 
-    pub admits-is : Sound s wink × Admits s time p m × (17 ≤ length r)
-    admits-is = admits-passed tests-passed
+  pub admits-is : Sound s wink × Admits s time p m × (17 ≤ length r)
+  admits-is = admits-passed s wink time p m r tests-passed
 
 -- ---- a step
 module _ (s : CtapHid) (wink time : ℕ) (disabled : Bool) (p m r : List ℕ) {n : ℕ} (e : n ≡ refusalOf s wink time (length p) (length m) (length r)) where

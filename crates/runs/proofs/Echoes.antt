@@ -65,12 +65,11 @@ module _ (s : CtapHid) (wink time : ℕ) (p m r : List ℕ) where
   none-is-8 = (λ e. omega (arith, e), (λ e. omega (arith, e), (λ e. omega (arith, e), (λ e. omega (arith, e), (λ e. omega (arith, e), (λ e. omega (arith, e), tt))))))
 
   -- and where none refuses the state is sound
-  module _ (disabled : Bool) (bytes : Bytes p) (passed : Passed tests) where
-    heard-carried : (s .max ≤ 7609) × Carried (Lies (s .max) (messageAfter s time disabled (read p) m)) (hear (transportOf s m) time disabled (read p) .answer)
-    heard-carried =
-        let admitted = admits-passed s wink time p m r passed in
-        let a = admitted .1 in
-        (a .sound .maximum, heard-right s wink time disabled (read p) m (admitted .0) (a .room) (a .later) (read-formed p (a .size) bytes) .1)
+  heard-carried : (disabled : Bool) → Bytes p → Passed tests → (s .max ≤ 7609) × Carried (Lies (s .max) (messageAfter s time disabled (read p) m)) (hear (transportOf s m) time disabled (read p) .answer)
+  heard-carried disabled bytes passed =
+      let admitted = admits-passed s wink time p m r passed in
+      let a = admitted .1 in
+      (a .sound .maximum, heard-right s wink time disabled (read p) m (admitted .0) (a .room) (a .later) (read-formed p (a .size) bytes) .1)
 
 -- ---- the transport's step
 module _ (s : CtapHid) (time : ℕ) (disabled : Bool) (p m r : List ℕ) where

@@ -111,25 +111,25 @@ no-echo e = absurd (true≢false (sym e))
 
 -- what holds of a whole message holds of what is carried
 module _ (P : List ℕ → Type 0) where
-  abbrev Right : Next Transport → Type 0
-  Right n = Carried P (n .answer)
+  abbrev Carries : {S : Type 0} → Next S → Type 0
+  Carries n = Carried P (n .answer)
 
-  carried-obey : (d : Transport) (time c : ℕ) (k : Command) (payload : List ℕ) → P payload → Right (obey d time c k payload)
+  carried-obey : (d : Transport) (time c : ℕ) (k : Command) (payload : List ℕ) → P payload → Carries (obey d time c k payload)
   unfolding obey onInit onLock
   carried-obey d time c MSG payload h = h
   carried-obey d time c CBOR payload h = h
-  carried-obey d time c INIT payload h = pick-both Right (eqb (length payload) 8) _ _ (pick-both Right (eqb c 0xffff_ffff) _ _ no-echo no-echo) no-echo
+  carried-obey d time c INIT payload h = pick-both Carries (eqb (length payload) 8) _ _ (pick-both Carries (eqb c 0xffff_ffff) _ _ no-echo no-echo) no-echo
   carried-obey d time c PING payload h = λ e. h
   carried-obey d time c CANCEL payload h = tt
   carried-obey d time c ERROR payload h = tt
   carried-obey d time c KEEPALIVE payload h = tt
   carried-obey d time c WINK payload h = h
-  carried-obey d time c LOCK payload h = pick-both Right (eqb (length payload) 1) _ _ (pick-both Right (ltb 10 (getD payload 0 0)) _ _ no-echo no-echo) no-echo
+  carried-obey d time c LOCK payload h = pick-both Carries (eqb (length payload) 1) _ _ (pick-both Carries (ltb 10 (getD payload 0 0)) _ _ no-echo no-echo) no-echo
   carried-obey d time c (VENDOR n) payload h = h
 
-  carried-dispatch : (d : Transport) (time c : ℕ) (k : Command) (payload : List ℕ) → P payload → Right (dispatch d time c k payload)
+  carried-dispatch : (d : Transport) (time c : ℕ) (k : Command) (payload : List ℕ) → P payload → Carries (dispatch d time c k payload)
   unfolding dispatch
-  carried-dispatch d time c k payload h = pick-both Right (knows (d .settings) k) _ _ (carried-obey d time c k payload h) no-echo
+  carried-dispatch d time c k payload h = pick-both Carries (knows (d .settings) k) _ _ (carried-obey d time c k payload h) no-echo
 
   carried-not-valid : (p : Packet) → Carried P (notValid p)
   carried-not-valid (initialization c cmd n field) = no-echo
@@ -140,10 +140,7 @@ module _ (P : List ℕ → Type 0) where
   carried-above time wink d nothing empty h = tt
   carried-above time wink d (reply c k payload) empty h = h
   carried-above time wink d (request c k payload) empty h =
-      pick-both Above (eqb (number k) 8) _ _ (pick-both Above (eqb (length payload) 0) _ _ (λ e. empty) no-echo) (pick-both Above (eqb (number k) 3) _ _ (pick-both Above (d .settings .u2f) _ _ h no-echo) h)
-    where
-      Above : Next Device → Type 0
-      Above n = Carried P (n .answer)
+      pick-both Carries (eqb (number k) 8) _ _ (pick-both Carries (eqb (length payload) 0) _ _ (λ e. empty) no-echo) (pick-both Carries (eqb (number k) 3) _ _ (pick-both Carries (d .settings .u2f) _ _ h no-echo) h)
 
 carried-settle : (d : Transport) (max n time c : ℕ) (rcv : Receiver) (b : Reception) (m : List ℕ) → Tells max n rcv b → Carried (Lies max (bufferOf rcv b m)) (settle (withReceiver d rcv) time c b .answer)
 unfolding settle
@@ -172,10 +169,10 @@ module _ (s : CtapHid) (wink time : ℕ) (disabled : Bool) (p : Packet) (m : Lis
   holds : Holds d time
   holds = holds-later d (s .last) time later (holds-is s wink m sound room)
 
-  abbrev RightIn : Next Transport → List ℕ → Type 0
-  RightIn n m′ = Stands (n .state .receiver) m′ × Carried (Lies (s .max) m′) (n .answer)
+  abbrev Right : Next Transport → List ℕ → Type 0
+  Right n m′ = Stands (n .state .receiver) m′ × Carried (Lies (s .max) m′) (n .answer)
 
-  served-right : isValid (s .allocated) p ≡ true → RightIn (serve d time p) (buffered (receive (settingsOf s) time (receiverOf (s .assembler) m) p) m)
+  served-right : isValid (s .allocated) p ≡ true → Right (serve d time p) (buffered (receive (settingsOf s) time (receiverOf (s .assembler) m) p) m)
   served-right valid =
       let t : Turn = receive (settingsOf s) time (receiverOf (s .assembler) m) p in
       let ts = turns-valid d time p holds formed valid in (
@@ -183,11 +180,11 @@ module _ (s : CtapHid) (wink time : ℕ) (disabled : Bool) (p : Packet) (m : Lis
         carried-settle d (s .max) (s .allocated) time (channelOf p) (t .receiver) (t .reception) m (ts .tells),
       )
 
-  pub heard-right : RightIn (hear d time disabled p) (messageAfter s time disabled p m)
+  pub heard-right : Right (hear d time disabled p) (messageAfter s time disabled p m)
   unfolding hear messageAfter
   heard-right =
-      both-pick RightIn (isValid (s .allocated) p) _ _ _ _
-      (λ valid. both-pick RightIn (isShut (d .lock) time disabled (channelOf p)) _ _ _ _ (λ e. (already, no-echo)) (λ e. served-right valid))
+      both-pick Right (isValid (s .allocated) p) _ _ _ _
+      (λ valid. both-pick Right (isShut (d .lock) time disabled (channelOf p)) _ _ _ _ (λ e. (already, no-echo)) (λ e. served-right valid))
       (λ valid. (already, carried-not-valid (Lies (s .max) m) p))
     where
       already : Stands (d .receiver) m
