@@ -3,12 +3,14 @@ use Prim.Native.Nat.{ℕ, _≤_}
 use native.Mathlib.Omega.{arith}
 use mathlib.Core.Path.{_≡_, refl, ap}
 use mathlib.Core.List.{List, [], _∷_}
-use mathlib.Core.Bool.{Bool, true, false, cond}
+use mathlib.Core.Bool.{Bool}
 use lib.ListN.{length}
+use Rattle.ctaphid.specs.Choice.{pick}
 use Rattle.ctaphid.specs.Packets.{Bytes, read}
 use Rattle.ctaphid.specs.Transport as standard
 use Rattle.ctaphid.specs.Transport.{Transport, Next, nothing, reply, request, hear}
 use Rattle.ctaphid.specs.Device.{Device, answered as answeredAbove}
+use Rattle.ctaphid.proofs.Tests.{pick-known, pick-both}
 use Rattle.ctaphid.proofs.Refusing.{Passed, Each, each-way}
 use Rattle.ctaphid.proofs.Packets.{read-formed}
 use Rattle.packet.specs.Numbers.{commandCase}
@@ -31,12 +33,9 @@ use Rattle.runs.proofs.Refines.{Carried, Lies, heard-right, carried-abo
 
 -- an answer whose payload is no longer than a sound maximum
 fits-of : (max : ℕ) (m : List ℕ) (a : standard.Answer) → max ≤ 7609 → Carried (Lies max m) a → Fits (answerOf a)
+unfolding pick
 fits-of max m nothing most h = tt
-fits-of max m (reply c k payload) most h = by-kind (isEcho k) h
-  where
-    by-kind : (b : Bool) → (b ≡ true → Lies max m payload) → Fits (cond b (Echo c (commandCase k) (length payload)) (Reply c (commandCase k) (length payload)))
-    by-kind true f = omega (arith, f refl .1)
-    by-kind false f = tt
+fits-of max m (reply c k payload) most h = pick-known Fits (isEcho k) (Echo c (commandCase k) (length payload)) (Reply c (commandCase k) (length payload)) (λ e. omega (arith, h e .1)) (λ e. tt)
 fits-of max m (request c k payload) most h = tt
 
 -- a refusal's number, and 0 where nothing is refused
@@ -45,12 +44,9 @@ number (refused n) = n
 number (answered a) = 0
 
 no-number : (a : standard.Answer) (m r : List ℕ) → number (said (answerOf a) m r) ≡ 0
+unfolding pick
 no-number nothing m r = refl
-no-number (reply c k payload) m r = by-kind (isEcho k)
-  where
-    by-kind : (b : Bool) → number (said (cond b (Echo c (commandCase k) (length payload)) (Reply c (commandCase k) (length payload))) m r) ≡ 0
-    by-kind true = refl
-    by-kind false = refl
+no-number (reply c k payload) m r = pick-both (λ (x : Answer). number (said x m r) ≡ 0) (isEcho k) (Echo c (commandCase k) (length payload)) (Reply c (commandCase k) (length payload)) refl refl
 no-number (request c k payload) m r = refl
 
 abbrev Not8 : ℕ → Type 0
