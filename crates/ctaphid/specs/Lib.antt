@@ -10,6 +10,7 @@ pub mod Receiver
 pub mod Transport
 pub mod Device
 pub mod Host
+pub mod Touch
 pub mod Refusals
 pub mod Rows
 pub mod Demands

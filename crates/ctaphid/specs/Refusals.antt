@@ -1,5 +1,9 @@
 -- Refusals: a call that is wrong gets a number, and alters nothing. They are ours, not the standard's: the table of docs/RULES.md, in its order. 8 is not used again (DECISIONS 47). Assumes nothing.
 use Prim.Native.Nat.{ℕ}
+use mathlib.Core.List.{List, [], _∷_}
+use mathlib.Core.Bool.{Bool}
+use lib.Dec.{ltb}
+use Rattle.ctaphid.specs.Limits.{lastTime}
 
 pub data Refusal : Type 0 where
   PacketSize ShortBuffer Unsound Time Maximum Index LongPayload Sequence LongReply NotInit Command Vendor : Refusal
@@ -29,3 +33,7 @@ refusalNumber NotInit = 11
 refusalNumber Command = 12
 -- set-up with a number that isn't the vendor's, 64 to 127
 refusalNumber Vendor = 13
+
+-- 4, as tests with their number
+abbrev pub untimely : (last time : ℕ) → List (Bool × ℕ)
+untimely last time = (ltb lastTime time, 4) ∷ (ltb time last, 4) ∷ []

@@ -4,12 +4,12 @@ use mathlib.Core.List.{[], _∷_}
 use mathlib.Core.Bool.{not}
 use lib.Dec.{ltb}
 use Rattle.ctaphid.specs.Choice.{pick, refusing}
+use Rattle.ctaphid.specs.Refusals.{untimely}
 use Rattle.hid.specs.declared.CtapHid.{CtapHid}
 use Rattle.hid.specs.declared.MainHid.{MainHid}
 use Rattle.hid.specs.declared.Running.{Running}
 use Rattle.hid.specs.declared.Running.the-variants.{Yes, No, Refused}
 use Rattle.hid.specs.Soundness.{isSound}
-use Rattle.hid.specs.Refusals.{untimely}
 
 -- what ends at the time `until` runs before it. Refusal 4
 abbrev pub runningAt : (last time until : ℕ) → Running

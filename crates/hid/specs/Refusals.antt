@@ -1,16 +1,13 @@
 -- Why a step is refused. Assumes nothing.
 use Prim.Native.Nat.{ℕ}
-use mathlib.Core.List.{List, [], _∷_, _++_}
+use mathlib.Core.List.{List, _∷_}
 use mathlib.Core.Bool.{Bool, not}
 use lib.Dec.{ltb, eqb}
 use Rattle.ctaphid.specs.Choice.{refusing}
-use Rattle.ctaphid.specs.Limits.{packetSize, shortReply, lastTime}
+use Rattle.ctaphid.specs.Limits.{packetSize, shortReply}
+use Rattle.ctaphid.specs.Refusals.{untimely}
 use Rattle.hid.specs.declared.CtapHid.{CtapHid}
 use Rattle.hid.specs.Soundness.{isSound}
-
--- 4: the time is above 2^48 - 1, or before the last
-abbrev pub untimely : (last time : ℕ) → List (Bool × ℕ)
-untimely last time = (ltb lastTime time, 4) ∷ (ltb time last, 4) ∷ []
 
 -- a step's refusals, in this order: 1, the packet isn't 64 bytes; 2, a buffer is short; 3, the state is not sound; 4. Each of the last three is the
 -- length of what was lent
