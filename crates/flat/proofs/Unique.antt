@@ -15,6 +15,9 @@ use Rattle.flat.proofs.write_packet as write-packet
 use Rattle.flat.proofs.split_message as split-message
 use Rattle.flat.proofs.host_read as host-read
 use Rattle.flat.proofs.init_reply as init-reply
+use Rattle.flat.proofs.waiting.wait_begin as wait-begin
+use Rattle.flat.proofs.waiting.wait_elapsed as wait-elapsed
+use Rattle.flat.proofs.waiting.wait_step as wait-step
 
 pub outcome-of-one : OneOutcome outcome-of.ended (λ M 𝓤. outcome-of.clauses 𝓤) (λ M 𝓤. outcome-of.spec 𝓤)
 outcome-of-one = record {
@@ -90,6 +93,24 @@ host-read-one = record {
 
 pub init-reply-one : OneOutcome init-reply.ended (λ M 𝓤. init-reply.clauses 𝓤) (λ M 𝓤. init-reply.spec 𝓤)
 init-reply-one = record {
+  stated = λ M 𝓤 H A mem run. refl;
+  one = λ 𝓤 H A mem run κs a g x y v w. from-facts 𝓤 (λ p q. (p ∙ sym q, refl));
+}
+
+pub wait-begin-one : OneOutcome wait-begin.ended (λ M 𝓤. wait-begin.clauses 𝓤) (λ M 𝓤. wait-begin.spec 𝓤)
+wait-begin-one = record {
+  stated = λ M 𝓤 H A mem run. refl;
+  one = λ 𝓤 H A mem run κs a g x y v w. from-facts 𝓤 (λ p q. (p ∙ sym q, refl));
+}
+
+pub wait-elapsed-one : OneOutcome wait-elapsed.ended (λ M 𝓤. wait-elapsed.clauses 𝓤) (λ M 𝓤. wait-elapsed.spec 𝓤)
+wait-elapsed-one = record {
+  stated = λ M 𝓤 H A mem run. refl;
+  one = λ 𝓤 H A mem run κs a g x y v w. from-facts 𝓤 (λ p q. (p ∙ sym q, refl));
+}
+
+pub wait-step-one : OneOutcome wait-step.ended (λ M 𝓤. wait-step.clauses 𝓤) (λ M 𝓤. wait-step.spec 𝓤)
+wait-step-one = record {
   stated = λ M 𝓤 H A mem run. refl;
   one = λ 𝓤 H A mem run κs a g x y v w. from-facts 𝓤 (λ p q. (p ∙ sym q, refl));
 }

@@ -1,4 +1,6 @@
 // The C boundary by value: every answer as numbers. The exported entries are thin over these.
+mod waiting;
+
 use hid::Answer;
 use hid::CtapHid;
 use hid::MainHid;
@@ -11,6 +13,15 @@ use packet::ProcessedPacket;
 use packet::Reading;
 use send::Count;
 use send::Written;
+pub use waiting::Ending;
+pub use waiting::FlatWait;
+pub use waiting::MadeWait;
+pub use waiting::Presence;
+pub use waiting::Sent;
+pub use waiting::WaitOutcome;
+pub use waiting::wait_begin;
+pub use waiting::wait_elapsed;
+pub use waiting::wait_step;
 ghost use mathlib.Core.Path.{_≡_};
 ghost use Rattle.hid.specs.Transport.{stepOf};
 ghost use Rattle.hid.specs.MainHid.{mainStepOf};

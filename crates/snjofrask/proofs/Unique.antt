@@ -1,6 +1,8 @@
 -- Each entry's contract leaves one outcome: what it returns, and the state and the lent bytes at exit. Assumes nothing.
 use mathlib.Core.Path.{refl, sym, ap, _∙_}
 use Rattle.outcome.specs.One.{OneOutcome, from-facts}
+use Rattle.flat.specs.declared.waiting.MadeWait.{MadeWait}
+use Rattle.flat.specs.declared.waiting.FlatWait.{FlatWait}
 use Rattle.flat.specs.Telling.{Flattened, MainFlattened, HostFlattened, Putting}
 use Rattle.flat.specs.declared.MadeHid.{MadeHid}
 use Rattle.flat.specs.declared.MadeMain.{MadeMain}
@@ -10,6 +12,9 @@ use Rattle.snjofrask.proofs.snjofrask_is_locked as is-locked
 use Rattle.snjofrask.proofs.snjofrask_device_new as device-new
 use Rattle.snjofrask.proofs.snjofrask_device_step as device-step
 use Rattle.snjofrask.proofs.snjofrask_is_winking as is-winking
+use Rattle.snjofrask.proofs.snjofrask_wait_begin as wait-begin
+use Rattle.snjofrask.proofs.snjofrask_wait_elapsed as wait-elapsed
+use Rattle.snjofrask.proofs.snjofrask_wait_step as wait-step
 use Rattle.snjofrask.proofs.snjofrask_read_packet as read-packet
 use Rattle.snjofrask.proofs.snjofrask_packet_count as packet-count
 use Rattle.snjofrask.proofs.snjofrask_write_packet as write-packet
@@ -51,6 +56,24 @@ pub snjofrask-is-winking-one : OneOutcome is-winking.ended (λ M 𝓤. is-winkin
 snjofrask-is-winking-one = record {
   stated = λ M 𝓤 H A mem run. refl;
   one = λ 𝓤 H A mem run κs a g x y v w. from-facts 𝓤 (λ p q. (p ∙ sym q, refl));
+}
+
+pub snjofrask-wait-begin-one : OneOutcome wait-begin.ended (λ M 𝓤. wait-begin.clauses 𝓤) (λ M 𝓤. wait-begin.spec 𝓤)
+snjofrask-wait-begin-one = record {
+  stated = λ M 𝓤 H A mem run. refl;
+  one = λ 𝓤 H A mem run κs a g x y v w. from-facts 𝓤 (λ p q. (ap (λ (o : MadeWait). o .refusal) (p ∙ sym q), λ i. ((p ∙ sym q) i .wait, (tt, (tt, (tt, (tt, tt)))))));
+}
+
+pub snjofrask-wait-elapsed-one : OneOutcome wait-elapsed.ended (λ M 𝓤. wait-elapsed.clauses 𝓤) (λ M 𝓤. wait-elapsed.spec 𝓤)
+snjofrask-wait-elapsed-one = record {
+  stated = λ M 𝓤 H A mem run. refl;
+  one = λ 𝓤 H A mem run κs a g x y v w. from-facts 𝓤 (λ p q. (p ∙ sym q, refl));
+}
+
+pub snjofrask-wait-step-one : OneOutcome wait-step.ended (λ M 𝓤. wait-step.clauses 𝓤) (λ M 𝓤. wait-step.spec 𝓤)
+snjofrask-wait-step-one = record {
+  stated = λ M 𝓤 H A mem run. refl;
+  one = λ 𝓤 H A mem run κs a g x y v w. from-facts 𝓤 (λ p q. (ap (λ (o : FlatWait). o .outcome) (p ∙ sym q), λ i. ((p ∙ sym q) i .wait, (tt, (tt, (tt, (tt, (tt, (tt, tt)))))))));
 }
 
 pub snjofrask-read-packet-one : OneOutcome read-packet.ended (λ M 𝓤. read-packet.clauses 𝓤) (λ M 𝓤. read-packet.spec 𝓤)

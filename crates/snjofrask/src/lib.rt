@@ -1,9 +1,11 @@
 // The static library's entries, for C and Rust. Each is thin over the same by value; flags are numbers, of which 0 is not set.
 use flat::InitOutcome;
 use flat::Outcome;
+use flat::WaitOutcome;
 use hid::CtapHid;
 use hid::MainHid;
 use host::Collection;
+use touch::Wait;
 ghost use mathlib.Core.Path.{_≡_};
 ghost use Rattle.hid.specs.Transport.{stepOf};
 ghost use Rattle.hid.specs.MainHid.{mainStepOf};
@@ -13,6 +15,8 @@ ghost use Rattle.ctaphid.specs.Host.{initOf};
 ghost use Rattle.packet.specs.Reading.{readingOf};
 ghost use Rattle.host.specs.Reading.{readOf};
 ghost use Rattle.send.specs.Sending.{countOf, writeOf, splitOf};
+ghost use Rattle.touch.specs.Waiting.{beginOf, elapsedOf, stepOf as waitStepOf};
+ghost use Rattle.flat.specs.TellingWaits.{presenceTold, receivedTold, madeWaitOf, elapsedNumber, flatWaitOf};
 ghost use Rattle.flat.specs.Telling.{isSet, readOutcome, countOutcome, runningNumber, madeOf, mainMadeOf, flat, flatOf, mainFlat, mainFlatOf, put, putOf, hostFlat, hostFlatOf, initOutcomeOf};
 
 // ---- the transport: checks 1 to 7
@@ -91,6 +95,50 @@ pub extern "C" fn snjofrask_is_winking(hid: &MainHid, time: u64) -> u8
     ensures { λ r. ⌜ r ≡ runningNumber (winkingOf (now (hid .entry)) time) ⌝ }
 {
     flat::is_winking(*hid, time)
+}
+
+// ---- the wait for a touch
+
+// A wait for a request of this interface and channel, from a time on, with a limit in milliseconds. 0, or refusal 4, which leaves wait as it came.
+#[no_mangle]
+pub extern "C" fn snjofrask_wait_begin(
+    wait: &mut Wait,
+    interface: u32,
+    cid: u32,
+    time: u64,
+    limit: u32,
+) -> u8
+    ensures { λ r. ⌜ record { wait = now (wait .exit); refusal = r } ≡ madeWaitOf (now (wait .entry)) (beginOf interface cid time limit) ⌝ }
+{
+    let made = flat::wait_begin(*wait, interface, cid, time, limit);
+    *wait = made.wait;
+    made.refusal
+}
+
+// Whether the limit has elapsed: 0 no, 1 yes, or refusal 4.
+#[no_mangle]
+pub extern "C" fn snjofrask_wait_elapsed(wait: &Wait, time: u64) -> u8
+    ensures { λ r. ⌜ r ≡ elapsedNumber (elapsedOf (now (wait .entry)) time) ⌝ }
+{
+    flat::wait_elapsed(*wait, time)
+}
+
+// A step that began at a time. Where no packet arrived, interface and packet are not looked at. A refused step, by 1 or 4, leaves wait as it came.
+#[no_mangle]
+pub extern "C" fn snjofrask_wait_step(
+    wait: &mut Wait,
+    time: u64,
+    presence: u8,
+    error: u8,
+    arrived: u8,
+    interface: u32,
+    packet: &[u8],
+) -> WaitOutcome
+    ensures { λ r. ⌜ record { wait = now (wait .exit); outcome = r } ≡ flatWaitOf (waitStepOf (now (wait .entry)) time (presenceTold presence error) (receivedTold arrived interface) (now (packet .entry))) ⌝ }
+{
+    let stepped = flat::wait_step(*wait, time, presence, error, arrived, interface, packet);
+    *wait = stepped.wait;
+    stepped.outcome
 }
 
 // ---- packets
