@@ -10,6 +10,8 @@ pub mod Forgetting
 pub mod Invariant
 pub mod Steps
 pub mod StillDue
+pub mod Waits
+pub mod WaitRows
 pub mod Deliver
 pub mod Listing
 pub mod Replies

@@ -1,7 +1,7 @@
 -- What reading gives, by the kind of packet; that each part is within its range; and that a written packet reads as itself. Assumes nothing.
 use Prim.Native.Nat.{ℕ, _+_, _-_, _*_, _/_, _%_, _^_, _≤_, _<_}
 use native.Mathlib.Omega.{arith}
-use mathlib.Core.Path.{_≡_, _∙_}
+use mathlib.Core.Path.{_≡_, refl, _∙_}
 use mathlib.Core.List.{List}
 use native.Mathlib.Decide.{decLe}
 use borrow.Author.Tests.{le-leb, lt-leb}
@@ -9,6 +9,8 @@ use lib.ListN.{length, drop, length-drop}
 use Rattle.ctaphid.specs.Choice.{pick}
 use Rattle.ctaphid.specs.Limits.{packetSize}
 use Rattle.ctaphid.specs.Packets.{Packet, initialization, continuation, byte, channelIn, declaredIn, read, written, Bytes, Formed}
+use Rattle.ctaphid.specs.Receiver.{channelOf}
+use Rattle.ctaphid.proofs.Tests.{pick-both}
 
 module _ (p : List ℕ) where
   pub read-first : 0x80 ≤ byte p 4 → read p ≡ initialization (channelIn p) (byte p 4 - 0x80) (declaredIn p) (drop 7 p)
@@ -18,6 +20,10 @@ module _ (p : List ℕ) where
   pub read-later : byte p 4 < 0x80 → read p ≡ continuation (channelIn p) (byte p 4) (drop 5 p)
   unfolding read pick
   read-later h = simp (lt-leb 0x80 (byte p 4) h)
+
+  pub channel-read : channelOf (read p) ≡ channelIn p
+  unfolding read
+  channel-read = pick-both (λ (q : Packet). channelOf q ≡ channelIn p) _ _ _ refl refl
 
   -- 64 bytes read as a packet whose parts are within their ranges
   pub read-formed : length p ≡ packetSize → Bytes p → Formed (read p)

@@ -4,17 +4,16 @@ use native.Mathlib.Omega.{arith}
 use native.Mathlib.Decide.{decLe, ℕ-discrete}
 use mathlib.Core.Path.{_≡_, refl, sym, ap, subst, _∙_}
 use mathlib.Core.List.{List, [], _∷_, _++_, map, append-assoc}
-use mathlib.Core.Bool.{Bool, true, false}
 use borrow.Author.Tests.{lt-ltb, le-ltb, eq-eqb, ne-eqb}
-use lib.Dec.{lit<, leb}
+use lib.Dec.{lit<}
 use lib.ListN.{length, take, drop, length-append, length-replicate, length-map, length-drop, take-append-drop, drop-of-length-le}
 use lib.Seq.{take-all, take-append-seam, take-append-add, length-take-le}
 use Rattle.ctaphid.specs.Choice.{pick}
-use Rattle.ctaphid.specs.Packets.{Packet, initialization, continuation, byte, channelIn, declaredIn, read, written, Formed}
+use Rattle.ctaphid.specs.Packets.{Packet, initialization, continuation, channelIn, read, written, Formed}
 use Rattle.ctaphid.specs.Messages.{later, chunks, padded, fields, continuations, packets, wire}
 use Rattle.ctaphid.specs.Receiver.{channelOf}
 use Rattle.ctaphid.specs.Host.{Begun, Collection, none, collecting, Heard, ignored, keepalive, waiting, reply, Got, got, gather, alive, begin, whenNone, whenBegun, onOwn, hear, answers, after, atLast, own, woven, Sendable, RoundTrip, RoundTrips}
-use Rattle.ctaphid.proofs.Packets.{read-written}
+use Rattle.ctaphid.proofs.Packets.{channel-read, read-written}
 use Rattle.ctaphid.proofs.Splitting.{padded-full, later-length}
 use Rattle.ctaphid.proofs.Messages.{continuations-length}
 
@@ -152,14 +151,6 @@ module _ (c space : ℕ) where
             more S next _ rest _ (omega arith) e (subst (λ (t : List ℕ). Reads next rest (reply cmd t)) back r)
 
 -- ---- packets of other channels between
-channel-read : (p : List ℕ) → channelOf (read p) ≡ channelIn p
-unfolding read pick
-channel-read p = by-kind (leb 0x80 (byte p 4))
-  where
-    by-kind : (t : Bool) → channelOf (pick t (initialization (channelIn p) (byte p 4 - 0x80) (declaredIn p) (drop 7 p)) (continuation (channelIn p) (byte p 4) (drop 5 p))) ≡ channelIn p
-    by-kind true = refl
-    by-kind false = refl
-
 module _ (c space : ℕ) where
   hear-other : (s : Collection) (p : List ℕ) → (channelIn p ≡ c → ⊥) → hear c space s (read p) ≡ got s ignored
   unfolding hear pick

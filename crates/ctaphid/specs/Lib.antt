@@ -15,5 +15,7 @@ pub mod Refusals
 pub mod Rows
 pub mod Demands
 pub mod StillDue
+pub mod Waits
+pub mod WaitRows
 pub mod Wrong
 pub mod WrongBounds
