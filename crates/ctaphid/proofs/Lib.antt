@@ -18,6 +18,7 @@ pub mod Replies
 pub mod Carried
 pub mod Instances
 pub mod WrongDelivery
+pub mod WrongWaits
 pub mod Histories
 pub mod Bounds
 pub mod Shut

@@ -110,7 +110,7 @@ module _ (active : Place) (until : ℕ) (m : Moment) where
     }
 
 -- ---- a step
-abbrev RightStep : Place → ℕ → Moment → Response → Type 0
+abbrev pub RightStep : Place → ℕ → Moment → Response → Type 0
 RightStep active until m r = Reason active until m (r .ending) × Sends active until m r
 
 -- the channel, and CANCEL, which is 91 in byte 4
@@ -191,7 +191,7 @@ arrival-right active until time none s h = sensor-right active until time none h
 arrival-right active until time (packet i p) s h =
     packet-right active until time i p s h (ℕ-discrete i (active .interface)) (ℕ-discrete (on p) (active .channel))
 
-step-right : (w : Wait) (m : Moment) → RightStep (w .active) (w .until) m (touchStep w m)
+pub step-right : (w : Wait) (m : Moment) → RightStep (w .active) (w .until) m (touchStep w m)
 unfolding touchStep pick
 step-right w m = by-time (decLe (w .until) (m .time))
   where
@@ -200,7 +200,7 @@ step-right w m = by-time (decLe (w .until) (m .time))
     by-time (no h) = simp (lt-leb (w .until) (m .time) (omega arith)) (arrival-right (w .active) (w .until) (m .time) (m .arrival) (m .sensor) (omega arith))
 
 -- ---- a whole wait
-followed : (e : Ending) (A : List Response → Type 0) (rs : List Response) → A rs → Then e (A (goingOn e rs)) (goingOn e rs)
+pub followed : (e : Ending) (A : List Response → Type 0) (rs : List Response) → A rs → Then e (A (goingOn e rs)) (goingOn e rs)
 followed notYet A rs a = a
 followed touched A rs a = refl
 followed cancelled A rs a = refl

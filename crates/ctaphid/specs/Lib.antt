@@ -19,3 +19,4 @@ pub mod Waits
 pub mod WaitRows
 pub mod Wrong
 pub mod WrongBounds
+pub mod WrongWaits

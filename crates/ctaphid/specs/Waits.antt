@@ -5,7 +5,7 @@ use mathlib.Core.List.{List, [], _∷_}
 use lib.ListN.{length}
 use lib.Dec.{eqb}
 use Rattle.ctaphid.specs.Choice.{pick}
-use Rattle.ctaphid.specs.Packets.{byte, Bytes}
+use Rattle.ctaphid.specs.Packets.{byte}
 use Rattle.ctaphid.specs.Commands.{ERROR, KEEPALIVE}
 use Rattle.ctaphid.specs.Touch.{Place, Wait, begun, Arrival, none, packet, Sensor, touch, timeout, error, Moment, Message, message, Ending, notYet, touched, cancelled, timedOut, failed, Response, touchStep}
 
@@ -55,7 +55,7 @@ Cancels p (packet i bytes) = (i ≡ p .interface) × (on bytes ≡ p .channel) �
 -- a packet that came has 64 bytes
 abbrev pub Whole : Arrival → Type 0
 Whole none = Unit {0}
-Whole (packet i bytes) = (length bytes ≡ 64) × Bytes bytes
+Whole (packet i bytes) = length bytes ≡ 64
 
 -- no step is refused: packets are whole, and times are below 2^48 and don't go back
 abbrev pub Taken : (last : ℕ) → List Moment → Type 0

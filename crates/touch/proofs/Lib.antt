@@ -1,3 +1,4 @@
 pub mod Stepping
 pub mod Sending
+pub mod Runs
 pub mod Unique

@@ -1,9 +1,9 @@
 -- Beginning, the question and a step, test by test. Assumes nothing.
 use Prim.Native.Nat.{ℕ, _+_, _≤_, _<_}
-use mathlib.Core.Path.{_≡_, refl, sym, ap, _∙_}
+use mathlib.Core.Path.{_≡_, sym, ap, _∙_}
 use mathlib.Core.List.{List}
 use mathlib.Core.Bool.{Bool, true, false, not}
-use borrow.Author.Tests.{lt-ltb, le-ltb, le-leb, lt-leb, eqb-true}
+use borrow.Author.Tests.{lt-ltb, le-ltb, le-leb, lt-leb, eqb-true, not-false}
 use lib.ListN.{length}
 use lib.Dec.{eqb}
 use Rattle.ctaphid.specs.Choice.{pick}
@@ -96,7 +96,3 @@ not-cut rx size b is whole = sym is ∙ whole
 
 pub whole-packet : (rx : RecvStatus) (size : ℕ) {from : ℕ} → isCut rx size ≡ false → rx ≡ Received from → size ≡ 64
 whole-packet rx size h e = eqb-true size packetSize (not-false (eqb size packetSize) (sym (ap (λ (x : RecvStatus). isCut x size) e) ∙ h))
-  where
-    not-false : (b : Bool) → not b ≡ false → b ≡ true
-    not-false true e = refl
-    not-false false e = sym e
