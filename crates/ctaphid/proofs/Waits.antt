@@ -1,17 +1,16 @@
 -- The definition's wait does what is asked of any. Assumes nothing.
-use Prim.Native.Nat.{ℕ, _+_, _-_, _≤_, _<_}
+use Prim.Native.Nat.{ℕ, _-_, _≤_, _<_}
 use native.Mathlib.Omega.{arith}
 use native.Mathlib.Decide.{decLe, ℕ-discrete}
 use mathlib.Core.Path.{_≡_, refl, sym, ap, subst, _∙_}
 use mathlib.Core.List.{List, [], _∷_}
-use mathlib.Core.Bool.{Bool, true, false}
+use mathlib.Core.Bool.{true, false}
 use borrow.Author.Tests.{le-leb, lt-leb, eq-eqb, ne-eqb}
-use lib.Dec.{eqb}
 use Rattle.ctaphid.specs.Choice.{pick}
-use Rattle.ctaphid.specs.Packets.{Packet, byte, channelIn, read}
+use Rattle.ctaphid.specs.Packets.{byte, channelIn, read}
 use Rattle.ctaphid.specs.Receiver.{channelOf}
 use Rattle.ctaphid.specs.Touch.{Place, place, isSame, Wait, begun, Arrival, none, packet, Sensor, touch, timeout, error, Moment, Message, Ending, notYet, touched, cancelled, timedOut, failed, Response, respond, busy, keepalive, isCancel, onSensor, before, onPacket, onArrival, touchStep}
-use Rattle.ctaphid.specs.Waits.{standardWait, goingOn, waited, on, From, Cancels, Taken, Reason, Other, sentTo, Sends, Then, Right, Waits}
+use Rattle.ctaphid.specs.Waits.{standardWait, goingOn, waited, on, From, Cancels, Reason, Other, sentTo, Sends, Then, Right, Waits}
 use Rattle.ctaphid.proofs.Packets.{read-first, read-later, channel-read}
 
 -- ---- what goes to a channel

@@ -7,7 +7,7 @@ use lib.Dec.{eqb}
 use Rattle.ctaphid.specs.Choice.{pick}
 use Rattle.ctaphid.specs.Packets.{byte}
 use Rattle.ctaphid.specs.Commands.{ERROR, KEEPALIVE}
-use Rattle.ctaphid.specs.Touch.{Place, Wait, begun, Arrival, none, packet, Sensor, touch, timeout, error, Moment, Message, message, Ending, notYet, touched, cancelled, timedOut, failed, Response, touchStep}
+use Rattle.ctaphid.specs.Touch.{Place, Wait, begun, Arrival, none, packet, touch, timeout, error, Moment, Message, message, Ending, notYet, touched, cancelled, timedOut, failed, Response, touchStep}
 
 -- what a step leads to
 pub record Reacted (S : Type 0) : Type 0 where

@@ -1,6 +1,5 @@
 -- Wrong waits, that Waits must catch. Each is the definition's but for one thing. Assumes nothing.
-use Prim.Native.Nat.{ℕ}
-use mathlib.Core.List.{List, [], _∷_, map}
+use mathlib.Core.List.{[], _∷_, map}
 use mathlib.Core.Bool.{Bool, true, false}
 use lib.Dec.{leb, eqb}
 use Rattle.ctaphid.specs.Choice.{pick}

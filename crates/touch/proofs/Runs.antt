@@ -1,16 +1,14 @@
 -- The code's wait over whole runs is the definition's. Assumes nothing.
-use Prim.Native.Nat.{ℕ, _+_, _≤_, _<_}
-use native.Mathlib.Omega.{arith}
+use Prim.Native.Nat.{ℕ, _+_, _≤_}
 use mathlib.Core.Path.{_≡_, refl, sym, ap, subst, _∙_}
 use mathlib.Core.List.{List, [], _∷_}
-use mathlib.Core.Bool.{Bool, true, false, not}
+use mathlib.Core.Bool.{true, false, not}
 use mathlib.Core.Logic.{_⊎_, inl, inr}
-use borrow.Author.Tests.{le-ltb, ltb-false, eq-eqb, eqb-true}
+use borrow.Author.Tests.{le-ltb, ltb-false, eq-eqb}
 use lib.ListN.{length}
-use lib.Dec.{eqb, ltb}
+use lib.Dec.{ltb}
 use Rattle.ctaphid.specs.Choice.{pick}
 use Rattle.ctaphid.specs.Limits.{lastTime, packetSize}
-use Rattle.ctaphid.specs.Packets.{Packet, read}
 use Rattle.ctaphid.specs.Touch as standard
 use Rattle.ctaphid.specs.Touch.{Place, place, Arrival, Sensor, Moment, onSensor, onPacket, onArrival, touchStep}
 use Rattle.ctaphid.specs.Waits.{standardWait, goingOn, waited, Whole, Taken, Right, Waits}
@@ -19,7 +17,7 @@ use Rattle.ctaphid.proofs.Waits.{step-right, followed, waits}
 use Rattle.touch.specs.declared.Wait.{Wait}
 use Rattle.touch.specs.declared.Responded.{Responded}
 use Rattle.touch.specs.Meaning.{waitMeant, arrivalMeant, sensorMeant, responseOf, responseMeant, endingOf}
-use Rattle.touch.specs.Waiting.{beginOf, isCut, at, refusedBy, stepOf}
+use Rattle.touch.specs.Waiting.{beginOf, isCut, at, stepOf}
 use Rattle.touch.proofs.Stepping.{whole-packet}
 use Rattle.touch.specs.Runs.{presenceOf, receivedOf, bytesOf, called, begins, theCode, isRefused, accepted, answered, WaitsAmongRefused}
 

@@ -6,7 +6,7 @@ use mathlib.Core.Bool.{Bool, true, false}
 use borrow.Author.Tests.{eq-eqb, ne-eqb}
 use lib.ListN.{length}
 use Rattle.ctaphid.specs.Choice.{pick}
-use Rattle.ctaphid.specs.Packets.{Packet, initialization, continuation, read}
+use Rattle.ctaphid.specs.Packets.{Packet, initialization, read}
 use Rattle.ctaphid.specs.Receiver.{channelOf}
 use Rattle.ctaphid.specs.Touch as standard
 use Rattle.ctaphid.specs.Touch.{Place, place, isSame, Message, busy, keepalive, isCancel, onSensor, before, onPacket, onArrival, Sensor}
