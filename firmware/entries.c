@@ -114,6 +114,38 @@ uint8_t snjofrask_is_locked(const snjofrask_transport *hid, uint64_t time)
     return locked;
 }
 
+/* ---- a wait for a touch */
+
+void proved_wait_begin(uint8_t *refusal, snjofrask_wait *wait, uint32_t interface, uint32_t cid, uint64_t time, uint32_t limit);
+void proved_wait_elapsed(uint8_t *elapsed, const snjofrask_wait *wait, uint64_t time);
+void proved_wait_step(snjofrask_wait_outcome *outcome, snjofrask_wait *wait, uint64_t time, uint8_t presence, uint8_t error,
+                      uint8_t arrived, uint32_t interface, const uint8_t *packet, uint64_t packet_len);
+
+uint8_t snjofrask_wait_begin(snjofrask_wait *wait, uint32_t interface, uint32_t cid, uint64_t time, uint32_t limit)
+{
+    uint8_t refusal;
+
+    proved_wait_begin(&refusal, wait, interface, cid, time, limit);
+    return refusal;
+}
+
+uint8_t snjofrask_wait_elapsed(const snjofrask_wait *wait, uint64_t time)
+{
+    uint8_t elapsed;
+
+    proved_wait_elapsed(&elapsed, wait, time);
+    return elapsed;
+}
+
+snjofrask_wait_outcome snjofrask_wait_step(snjofrask_wait *wait, uint64_t time, uint8_t presence, uint8_t error,
+                                           uint8_t arrived, uint32_t interface, const uint8_t *packet, size_t packet_len)
+{
+    snjofrask_wait_outcome outcome;
+
+    proved_wait_step(&outcome, wait, time, presence, error, arrived, interface, packet, packet_len);
+    return outcome;
+}
+
 /* ---- packets */
 
 void proved_read_packet(proved_outcome *outcome, const uint8_t *packet, uint64_t packet_len);

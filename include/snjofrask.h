@@ -22,11 +22,12 @@
  * does no harm: a step refuses it with 2, where its max is more than the message buffer has, or with 3, where it makes no
  * sense; contents that happen to make sense are taken for a state. All zeros make sense: a device with a maximum of 0,
  * without U2F or vendor commands, which tells every INIT that it is too long. A collection that is all zeros is a fresh one.
+ * A wait makes sense whatever stands there.
  *
  * Threads: there are no globals. Calls over different structs and buffers may run at once; a struct and its buffers
  * serve one call at a time.
  *
- * Time is in whole milliseconds from any beginning, at most SNJOFRASK_LAST_TIME_MS, and never goes back for a state.
+ * Time is in whole milliseconds from any beginning, at most SNJOFRASK_LAST_TIME_MS, and never goes back for a state or a wait.
  *
  * A flag is a number, and is set where it is not 0.
  */
@@ -79,9 +80,9 @@ extern "C" {
 /* ---- numbers */
 
 /* Of the library: header and archive belong together. */
-#define SNJOFRASK_VERSION "0.8.0"
+#define SNJOFRASK_VERSION "0.9.0"
 #define SNJOFRASK_VERSION_MAJOR 0
-#define SNJOFRASK_VERSION_MINOR 8
+#define SNJOFRASK_VERSION_MINOR 9
 #define SNJOFRASK_VERSION_PATCH 0
 
 /* Limits: bytes and milliseconds. */
@@ -143,7 +144,7 @@ extern "C" {
 #define SNJOFRASK_REFUSAL_PACKET_SIZE 1      /* a packet, read or written, that isn't 64 bytes */
 #define SNJOFRASK_REFUSAL_SHORT_BUFFER 2     /* a message buffer below the maximum, or a reply buffer below 17 bytes */
 #define SNJOFRASK_REFUSAL_UNSOUND 3          /* a state or a collection that makes no sense */
-#define SNJOFRASK_REFUSAL_TIME 4             /* a time above SNJOFRASK_LAST_TIME_MS, or before that of an earlier step */
+#define SNJOFRASK_REFUSAL_TIME 4             /* above SNJOFRASK_LAST_TIME_MS, or before an earlier step or a wait's beginning */
 #define SNJOFRASK_REFUSAL_MAXIMUM 5          /* set-up with a maximum above 7,609 */
 #define SNJOFRASK_REFUSAL_INDEX 6            /* a packet index at or past the count */
 #define SNJOFRASK_REFUSAL_LONG_PAYLOAD 7     /* a payload of over 7,609 bytes */
@@ -167,6 +168,19 @@ extern "C" {
 #define SNJOFRASK_KIND_KEEPALIVE 9           /* host: not done yet, status in cmd */
 #define SNJOFRASK_KIND_WAITING 10            /* host: taken, and more is due */
 #define SNJOFRASK_KIND_COLLECTED 11          /* host: a whole reply: cmd, and len bytes of the buffer */
+
+/* What the touch sensor says. Any other number is taken for FAILED. */
+#define SNJOFRASK_PRESENCE_TIMEOUT 0         /* no touch so far */
+#define SNJOFRASK_PRESENCE_TOUCHED 1
+#define SNJOFRASK_PRESENCE_FAILED 2
+
+/* What a step makes of a wait for a touch. */
+#define SNJOFRASK_WAIT_REFUSED 0             /* refusal: the call was wrong, and the wait is as it came */
+#define SNJOFRASK_WAIT_NOT_YET 1             /* it goes on. Those below end it */
+#define SNJOFRASK_WAIT_TOUCHED 2
+#define SNJOFRASK_WAIT_CANCELED 3
+#define SNJOFRASK_WAIT_FAILED 4              /* error: the sensor's number */
+#define SNJOFRASK_WAIT_TIMED_OUT 5
 
 /* ---- structs: numbers only, without padding */
 
@@ -236,6 +250,34 @@ typedef struct snjofrask_init_outcome {
     uint8_t nonce[8];
 } snjofrask_init_outcome;
 
+/* A wait for a touch, for the request on channel cid of an interface. From the time deadline on it is over; last is the time of
+   the latest step, at first of the beginning. The caller numbers the key's interfaces, as it likes. */
+typedef struct snjofrask_wait {
+    uint64_t deadline;
+    uint64_t last;
+    uint32_t interface;
+    uint32_t cid;
+} snjofrask_wait;
+
+/* A message of one byte, to be sent on an interface: its one packet is that of cid, cmd and byte. spare is 0. */
+typedef struct snjofrask_sent {
+    uint32_t interface;
+    uint32_t cid;
+    uint8_t cmd;
+    uint8_t byte;
+    uint16_t spare;
+} snjofrask_sent;
+
+/* What a step of a wait answers. The first count of sent, 0, 1 or 2, are to be sent, in this order; the others are all 0. error
+   is the sensor's number with FAILED, and refusal 1 or 4 with REFUSED; else they are 0. */
+typedef struct snjofrask_wait_outcome {
+    snjofrask_sent sent[2];
+    uint8_t count;
+    uint8_t ending;
+    uint8_t error;
+    uint8_t refusal;
+} snjofrask_wait_outcome;
+
 /* the layout that the archive was compiled for: the same on every processor, but for the length of an outcome */
 SNJOFRASK_ASSERT(sizeof(size_t) == sizeof(void *));
 SNJOFRASK_ASSERT(sizeof(size_t) == 8 || sizeof(size_t) == 4);
@@ -295,6 +337,29 @@ SNJOFRASK_ASSERT(offsetof(snjofrask_init_outcome, refusal) == 9);
 SNJOFRASK_ASSERT(offsetof(snjofrask_init_outcome, rest) == 10);
 SNJOFRASK_ASSERT(offsetof(snjofrask_init_outcome, nonce) == 12);
 
+SNJOFRASK_ASSERT(sizeof(snjofrask_wait) == 24);
+SNJOFRASK_ASSERT(SNJOFRASK_ALIGNMENT(snjofrask_wait) == 8);
+SNJOFRASK_ASSERT(offsetof(snjofrask_wait, deadline) == 0);
+SNJOFRASK_ASSERT(offsetof(snjofrask_wait, last) == 8);
+SNJOFRASK_ASSERT(offsetof(snjofrask_wait, interface) == 16);
+SNJOFRASK_ASSERT(offsetof(snjofrask_wait, cid) == 20);
+
+SNJOFRASK_ASSERT(sizeof(snjofrask_sent) == 12);
+SNJOFRASK_ASSERT(SNJOFRASK_ALIGNMENT(snjofrask_sent) == 4);
+SNJOFRASK_ASSERT(offsetof(snjofrask_sent, interface) == 0);
+SNJOFRASK_ASSERT(offsetof(snjofrask_sent, cid) == 4);
+SNJOFRASK_ASSERT(offsetof(snjofrask_sent, cmd) == 8);
+SNJOFRASK_ASSERT(offsetof(snjofrask_sent, byte) == 9);
+SNJOFRASK_ASSERT(offsetof(snjofrask_sent, spare) == 10);
+
+SNJOFRASK_ASSERT(sizeof(snjofrask_wait_outcome) == 28);
+SNJOFRASK_ASSERT(SNJOFRASK_ALIGNMENT(snjofrask_wait_outcome) == 4);
+SNJOFRASK_ASSERT(offsetof(snjofrask_wait_outcome, sent) == 0);
+SNJOFRASK_ASSERT(offsetof(snjofrask_wait_outcome, count) == 24);
+SNJOFRASK_ASSERT(offsetof(snjofrask_wait_outcome, ending) == 25);
+SNJOFRASK_ASSERT(offsetof(snjofrask_wait_outcome, error) == 26);
+SNJOFRASK_ASSERT(offsetof(snjofrask_wait_outcome, refusal) == 27);
+
 /* ---- a device: everything but what MSG, CBOR and vendor commands mean */
 
 /*
@@ -321,13 +386,15 @@ uint8_t snjofrask_device_new(snjofrask_device *hid, size_t max, uint8_t u2f, con
  *    same command, by snjofrask_split_message. Once the payload has been read, message is free, for the answer too;
  *  - REFUSED: by 1, 2, 3 or 4, in this order. hid, message and reply are as they came.
  *
- * While the caller works on a MESSAGE, the device knows of no request: it would take the next one. So the caller
+ * While the caller works on a MESSAGE, the device knows of no request: it would take the next one. Where the work is a
+ * wait for a touch, the caller gives each packet to snjofrask_wait_step, and sends what that says. In any other work it
  *  - sends KEEPALIVE on the request's channel at least every 100 ms, and when the status changes:
  *    snjofrask_write_packet(cid, SNJOFRASK_CMD_KEEPALIVE, &status, 1, 0, packet, 64);
- *  - looks at each packet by snjofrask_read_packet: FIRST on the request's channel with command CANCEL ends the work. It
- *    has no answer; the request does, with the status for that (CTAP2_ERR_KEEPALIVE_CANCEL, 0x2D, for CBOR);
- *  - gives every other packet to a step with disabled set, and sends its reply;
- *  - sends ERROR on the request's channel in place of an answer that it can't give, with one byte: one of the errors
+ *  - looks at each packet by snjofrask_read_packet: FIRST on the request's channel with command CANCEL ends the work;
+ *  - gives every other packet to a step with disabled set, and sends its reply.
+ * In either
+ *  - CANCEL has no answer; the request does, with the status for that (CTAP2_ERR_KEEPALIVE_CANCEL, 0x2D, for CBOR);
+ *  - in place of an answer that it can't give it sends ERROR on the request's channel, with one byte: one of the errors
  *    above, or the standard's ERR_OTHER, 0x7F, which the device itself never sends.
  */
 SNJOFRASK_ENTRY
@@ -357,6 +424,48 @@ snjofrask_outcome snjofrask_transport_step(snjofrask_transport *hid, uint64_t ti
  */
 SNJOFRASK_ENTRY
 uint8_t snjofrask_is_locked(const snjofrask_transport *hid, uint64_t time);
+
+/* ---- a wait for a touch, beside a device or a transport */
+
+/*
+ * A wait that begins at a time, for a request on channel cid of an interface, and is over after limit ms; with 0 it is over
+ * at once. OpenSK's limit is 30,000.
+ * Returns 0, or refusal 4, which leaves wait as it came.
+ */
+SNJOFRASK_ENTRY
+uint8_t snjofrask_wait_begin(snjofrask_wait *wait, uint32_t interface, uint32_t cid, uint64_t time, uint32_t limit);
+
+/* Whether the limit has elapsed at a time, which alters nothing: 0 for no, 1 for yes, or refusal 4. */
+SNJOFRASK_ENTRY
+uint8_t snjofrask_wait_elapsed(const snjofrask_wait *wait, uint64_t time);
+
+/*
+ * A step of a wait. The caller
+ *  - reads its clock, and asks snjofrask_wait_elapsed. Where that says 1 the wait has ended, as with TIMED_OUT, and no packet
+ *    is taken for it;
+ *  - waits for a packet or the sensor, at most 100 ms, which is how often KEEPALIVE is due;
+ *  - makes a step at the time that it read before it waited, and sends what the step says, each by
+ *    snjofrask_write_packet(sent.cid, sent.cmd, &sent.byte, 1, 0, packet, 64) on the interface sent.interface. OpenSK ends a
+ *    wait whose KEEPALIVE can't be sent, and passes over an ERROR that can't;
+ *  - begins again where the step said NOT_YET.
+ *
+ * presence is what the sensor said, and error its number where it failed. arrived is a flag: where it is set, packet came on
+ * interface; else these two are not looked at, and packet_len may be 0. A step that is not refused puts the time into
+ * wait->last, alters nothing else, and goes by the first of these that holds:
+ *  - the time is at or past the deadline: TIMED_OUT. Nothing is sent;
+ *  - packet is CANCEL on the request's interface and channel, that is a first packet with this command, whatever length it
+ *    declares: CANCELED, whatever the sensor said. Nothing is sent;
+ *  - the sensor said TOUCHED: TOUCHED;
+ *  - the sensor said FAILED: FAILED, with its number in error;
+ *  - else NOT_YET. KEEPALIVE with STATUS_UPNEEDED is to be sent on the request's interface and channel.
+ * With the last three, a packet of another interface or another channel, allocated or not, broadcast too, is told
+ * CHANNEL_BUSY there, before all else that is sent. Another packet of the request's own, INIT too, is dropped.
+ *
+ * REFUSED: by 1, for a packet that arrived, or by 4, in this order. wait is as it came.
+ */
+SNJOFRASK_ENTRY
+snjofrask_wait_outcome snjofrask_wait_step(snjofrask_wait *wait, uint64_t time, uint8_t presence, uint8_t error,
+                                           uint8_t arrived, uint32_t interface, const uint8_t *packet, size_t packet_len);
 
 /* ---- packets, for both ends */
 

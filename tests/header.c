@@ -8,6 +8,8 @@
 #if __STDC_HOSTED__
 #include <stdio.h>
 
+#define CHECK(test) check(test, #test, __LINE__)
+
 static void report(const char *text, int line)
 {
     fprintf(stderr, "tests/header.c:%d: not so: %s\n", line, text);
@@ -15,23 +17,20 @@ static void report(const char *text, int line)
 #else
 #include "board.h"
 
+/* the line alone, as the texts take as much flash as all the rest */
+#define CHECK(test) check(test, "", __LINE__)
+
 static void report(const char *text, int line)
 {
     const uint8_t number[] = {(uint8_t)('0' + line / 1000), (uint8_t)('0' + line / 100 % 10), (uint8_t)('0' + line / 10 % 10),
-                              (uint8_t)('0' + line % 10), ' '};
-    size_t len = 0;
+                              (uint8_t)('0' + line % 10), '\n'};
 
-    while (text[len] != 0)
-        len++;
+    (void)text;
     board_write(number, sizeof number);
-    board_write((const uint8_t *)text, len);
-    board_write((const uint8_t *)"\n", 1);
 }
 #endif
 
 static int failures;
-
-#define CHECK(test) check(test, #test, __LINE__)
 
 static void check(int holds, const char *text, int line)
 {
@@ -979,6 +978,305 @@ static void channels_and_commands(void)
     CHECK(is(snjofrask_host_read(&collection, 0x92345678, packet, 64, message, 57), SNJOFRASK_KIND_COLLECTED, 0, SNJOFRASK_CMD_PING, 1));
 }
 
+/* ---- a wait for a touch */
+
+/* the request that waits */
+#define OWN_INTERFACE 0x80000003
+#define OWN_CID 0x92345678
+
+/* what the sensor says, and what else is taken for FAILED */
+static const uint8_t presences[] = {SNJOFRASK_PRESENCE_TIMEOUT, SNJOFRASK_PRESENCE_TOUCHED, SNJOFRASK_PRESENCE_FAILED, 3, 0x80, 255};
+
+static snjofrask_wait begun(uint64_t time, uint32_t limit)
+{
+    snjofrask_wait wait;
+
+    memset(&wait, 0xEE, sizeof wait);
+    CHECK(snjofrask_wait_begin(&wait, OWN_INTERFACE, OWN_CID, time, limit) == 0);
+    CHECK(wait.deadline == time + limit && wait.last == time && wait.interface == OWN_INTERFACE && wait.cid == OWN_CID);
+    return wait;
+}
+
+/* A step with packet, or without one, which must alter the time alone. */
+static snjofrask_wait_outcome step(snjofrask_wait *wait, uint64_t time, uint8_t presence, uint8_t arrived, uint32_t interface)
+{
+    snjofrask_wait after = *wait;
+    const snjofrask_wait_outcome outcome =
+        snjofrask_wait_step(wait, time, presence, 0xAB, arrived, interface, packet, arrived != 0 ? sizeof packet : 0);
+
+    after.last = time;
+    CHECK(memcmp(wait, &after, sizeof after) == 0);
+    return outcome;
+}
+
+static int is_sent(snjofrask_sent sent, uint32_t interface, uint32_t cid, int cmd, int byte)
+{
+    return sent.interface == interface && sent.cid == cid && sent.cmd == cmd && sent.byte == byte && sent.spare == 0;
+}
+
+static int is_keepalive(snjofrask_sent sent)
+{
+    return is_sent(sent, OWN_INTERFACE, OWN_CID, SNJOFRASK_CMD_KEEPALIVE, SNJOFRASK_STATUS_UPNEEDED);
+}
+
+static int is_busy(snjofrask_sent sent, uint32_t interface, uint32_t cid)
+{
+    return is_sent(sent, interface, cid, SNJOFRASK_CMD_ERROR, SNJOFRASK_ERR_CHANNEL_BUSY);
+}
+
+/* An ending without refusal, and so many messages; those after them are none. */
+static int is_ended(snjofrask_wait_outcome outcome, int ending, int error, int count)
+{
+    for (int i = count; i < 2; i++)
+        if (!is_sent(outcome.sent[i], 0, 0, 0, 0))
+            return 0;
+    return outcome.ending == ending && outcome.error == error && outcome.count == count && outcome.refusal == 0;
+}
+
+static int is_refused_wait(snjofrask_wait_outcome outcome, int refusal)
+{
+    const int is_empty = is_sent(outcome.sent[0], 0, 0, 0, 0) && is_sent(outcome.sent[1], 0, 0, 0, 0) && outcome.count == 0;
+
+    return is_empty && outcome.ending == SNJOFRASK_WAIT_REFUSED && outcome.error == 0 && outcome.refusal == refusal;
+}
+
+/* What the sensor makes of a wait, after told messages to others: a step answers so whatever becomes of a packet. */
+static int goes_by_sensor(snjofrask_wait_outcome outcome, uint8_t presence, int told)
+{
+    if (presence == SNJOFRASK_PRESENCE_TIMEOUT)
+        return is_ended(outcome, SNJOFRASK_WAIT_NOT_YET, 0, told + 1) && is_keepalive(outcome.sent[told]);
+    if (presence == SNJOFRASK_PRESENCE_TOUCHED)
+        return is_ended(outcome, SNJOFRASK_WAIT_TOUCHED, 0, told);
+    return is_ended(outcome, SNJOFRASK_WAIT_FAILED, 0xAB, told);
+}
+
+static void wait_begins(void)
+{
+    snjofrask_wait wait = begun(0, 0);
+    snjofrask_wait before;
+
+    wait = begun(SNJOFRASK_LAST_TIME_MS, 0xFFFFFFFF);
+    wait = begun((uint64_t)1 << 32, 30000);
+    before = wait;
+    CHECK(snjofrask_wait_begin(&wait, 1, 2, SNJOFRASK_LAST_TIME_MS + 1, 0) == SNJOFRASK_REFUSAL_TIME);
+    CHECK(snjofrask_wait_begin(&wait, 1, 2, (uint64_t)1 << 63, 0) == SNJOFRASK_REFUSAL_TIME);
+    CHECK(memcmp(&wait, &before, sizeof before) == 0);
+}
+
+static void wait_elapses(void)
+{
+    const uint64_t late = (uint64_t)1 << 32;
+    const snjofrask_wait wait = begun(100, 30000);
+    const snjofrask_wait late_wait = begun(late, 30000);
+    const snjofrask_wait none = begun(100, 0);
+    const snjofrask_wait last = begun(SNJOFRASK_LAST_TIME_MS, 1);
+    const snjofrask_wait before = wait;
+
+    CHECK(snjofrask_wait_elapsed(&wait, 100) == 0 && snjofrask_wait_elapsed(&wait, 30099) == 0);
+    CHECK(snjofrask_wait_elapsed(&wait, 30100) == 1 && snjofrask_wait_elapsed(&wait, 30101) == 1);
+    CHECK(snjofrask_wait_elapsed(&wait, late) == 1 && snjofrask_wait_elapsed(&wait, SNJOFRASK_LAST_TIME_MS) == 1);
+    CHECK(snjofrask_wait_elapsed(&wait, 99) == SNJOFRASK_REFUSAL_TIME);
+    CHECK(snjofrask_wait_elapsed(&wait, SNJOFRASK_LAST_TIME_MS + 1) == SNJOFRASK_REFUSAL_TIME);
+    CHECK(memcmp(&wait, &before, sizeof before) == 0);
+    CHECK(snjofrask_wait_elapsed(&late_wait, late + 29999) == 0 && snjofrask_wait_elapsed(&late_wait, late + 30000) == 1);
+    CHECK(snjofrask_wait_elapsed(&late_wait, late - 1) == SNJOFRASK_REFUSAL_TIME);
+    CHECK(snjofrask_wait_elapsed(&none, 100) == 1 && snjofrask_wait_elapsed(&none, 99) == SNJOFRASK_REFUSAL_TIME);
+    CHECK(snjofrask_wait_elapsed(&last, SNJOFRASK_LAST_TIME_MS) == 0);
+}
+
+/* The sensor alone: where no packet came, what stands in packet is CANCEL, and looked at by no step. */
+static void wait_goes_by_the_sensor(void)
+{
+    snjofrask_wait wait = begun(100, 30000);
+
+    put(OWN_CID, SNJOFRASK_CMD_CANCEL, 0, 0);
+    for (size_t i = 0; i < sizeof presences; i++) {
+        const uint64_t time = 200 + i;
+
+        CHECK(goes_by_sensor(step(&wait, time, presences[i], 0, OWN_INTERFACE), presences[i], 0));
+        CHECK(goes_by_sensor(step(&wait, time, presences[i], 0, OWN_INTERFACE + 1), presences[i], 0));
+        for (int len = 0; len <= 128; len += 64)
+            CHECK(goes_by_sensor(snjofrask_wait_step(&wait, time, presences[i], 0xAB, 0, OWN_INTERFACE, packet, (size_t)len), presences[i], 0));
+    }
+    /* any number of the sensor's, and only where it failed */
+    for (int error = 0; error < 256; error++) {
+        const uint8_t number = (uint8_t)error;
+
+        CHECK(is_ended(snjofrask_wait_step(&wait, 300, SNJOFRASK_PRESENCE_FAILED, number, 0, 0, packet, 0), SNJOFRASK_WAIT_FAILED, error, 0));
+        CHECK(is_ended(snjofrask_wait_step(&wait, 300, SNJOFRASK_PRESENCE_TIMEOUT, number, 0, 0, packet, 0), SNJOFRASK_WAIT_NOT_YET, 0, 1));
+        CHECK(is_ended(snjofrask_wait_step(&wait, 300, SNJOFRASK_PRESENCE_TOUCHED, number, 0, 0, packet, 0), SNJOFRASK_WAIT_TOUCHED, 0, 0));
+    }
+}
+
+/* Whether packet, on another interface or another channel, is told that it is so, and then the sensor counts. */
+static int is_told(uint32_t interface, uint32_t cid)
+{
+    snjofrask_wait wait = begun(100, 30000);
+    int holds = 1;
+
+    for (size_t i = 0; i < sizeof presences; i++) {
+        const snjofrask_wait_outcome outcome = step(&wait, 100 + i, presences[i], 1, interface);
+
+        holds &= goes_by_sensor(outcome, presences[i], 1) && is_busy(outcome.sent[0], interface, cid);
+    }
+    return holds;
+}
+
+static void wait_tells_others(void)
+{
+    static const uint32_t others[] = {0, 1, SNJOFRASK_CHANNEL_BROADCAST, OWN_CID + 1, ~(uint32_t)OWN_CID};
+
+    for (size_t i = 0; i < sizeof others / sizeof others[0]; i++) {
+        put(others[i], SNJOFRASK_CMD_INIT, 8, 0);
+        CHECK(is_told(OWN_INTERFACE, others[i]) && is_told(7, others[i]));
+        put(others[i], SNJOFRASK_CMD_CANCEL, 0, 0);
+        CHECK(is_told(OWN_INTERFACE, others[i]) && is_told(7, others[i]));
+        put(others[i], SNJOFRASK_CMD_PING, 58, 1);
+        CHECK(is_told(OWN_INTERFACE, others[i]) && is_told(7, others[i]));
+    }
+    /* every bit counts, of the channel and of the interface */
+    for (int bit = 0; bit < 32; bit++) {
+        const uint32_t mask = (uint32_t)1 << bit;
+
+        put(OWN_CID ^ mask, SNJOFRASK_CMD_CANCEL, 0, 0);
+        CHECK(is_told(OWN_INTERFACE, OWN_CID ^ mask));
+        put(OWN_CID, SNJOFRASK_CMD_CANCEL, 0, 0);
+        CHECK(is_told(OWN_INTERFACE ^ mask, OWN_CID));
+    }
+}
+
+/* CANCEL on the request's own channel, of any declared length, beats the sensor. */
+static void wait_is_canceled(void)
+{
+    static const size_t lengths[] = {0, 1, 57, 58, SNJOFRASK_LARGEST_PAYLOAD, SNJOFRASK_LARGEST_PAYLOAD + 1, 0xFFFF};
+
+    for (size_t i = 0; i < sizeof lengths / sizeof lengths[0]; i++)
+        for (size_t j = 0; j < sizeof presences; j++) {
+            snjofrask_wait wait = begun(100, 30000);
+
+            put(OWN_CID, SNJOFRASK_CMD_CANCEL, 0, 0);
+            packet[5] = (uint8_t)(lengths[i] >> 8);
+            packet[6] = (uint8_t)(lengths[i] & 0xFF);
+            memset(packet + 7, (int)i, sizeof packet - 7);
+            CHECK(is_ended(step(&wait, 100, presences[j], 1, OWN_INTERFACE), SNJOFRASK_WAIT_CANCELED, 0, 0));
+            CHECK(is_ended(step(&wait, 30099, presences[j], 0x80, OWN_INTERFACE), SNJOFRASK_WAIT_CANCELED, 0, 0));
+        }
+}
+
+/* And any other packet there is dropped: other commands, INIT too, and continuations, number 17 too. */
+static void wait_drops_its_own(void)
+{
+    snjofrask_wait wait = begun(100, 30000);
+
+    for (int number = 0; number < 256; number++) {
+        put(OWN_CID, SNJOFRASK_CMD_PING, 8, 0);
+        packet[4] = (uint8_t)number;
+        if (number == (0x80 | SNJOFRASK_CMD_CANCEL))
+            continue;
+        for (size_t i = 0; i < sizeof presences; i++)
+            CHECK(goes_by_sensor(step(&wait, 100, presences[i], 1, OWN_INTERFACE), presences[i], 0));
+    }
+}
+
+/* Just before its deadline it goes on. From there on nothing is looked at or sent, and it stays so. */
+static void wait_times_out(void)
+{
+    for (uint32_t limit = 0; limit <= 30000; limit += 15000)
+        for (size_t i = 0; i < sizeof presences; i++)
+            for (uint32_t cid = OWN_CID; cid <= OWN_CID + 1; cid++) {
+                snjofrask_wait wait = begun(100, limit);
+
+                put(cid, SNJOFRASK_CMD_CANCEL, 0, 0);
+                if (limit > 0)
+                    CHECK(goes_by_sensor(step(&wait, limit + 99, presences[i], 0, 0), presences[i], 0));
+                CHECK(is_ended(step(&wait, limit + 100, presences[i], 0, 0), SNJOFRASK_WAIT_TIMED_OUT, 0, 0));
+                CHECK(is_ended(step(&wait, limit + 100, presences[i], 1, OWN_INTERFACE), SNJOFRASK_WAIT_TIMED_OUT, 0, 0));
+                CHECK(is_ended(step(&wait, limit + 101, presences[i], 1, 7), SNJOFRASK_WAIT_TIMED_OUT, 0, 0));
+                CHECK(is_ended(step(&wait, SNJOFRASK_LAST_TIME_MS, presences[i], 1, 7), SNJOFRASK_WAIT_TIMED_OUT, 0, 0));
+            }
+}
+
+/* The one refusal in front of the other, and both in front of all else. */
+static void wait_refusals(void)
+{
+    static const size_t lengths[] = {0, 63, 65, 128, HIGH + 64};
+    static const uint64_t times[] = {199, 0, SNJOFRASK_LAST_TIME_MS + 1, ((uint64_t)1 << 63) + 200};
+    snjofrask_wait wait = begun(100, 30000);
+    snjofrask_wait before;
+
+    put(OWN_CID, SNJOFRASK_CMD_CANCEL, 0, 0);
+    CHECK(goes_by_sensor(step(&wait, 200, SNJOFRASK_PRESENCE_TIMEOUT, 0, 0), SNJOFRASK_PRESENCE_TIMEOUT, 0));
+    before = wait;
+    for (size_t i = 0; i < sizeof lengths / sizeof lengths[0]; i++) {
+        CHECK(is_refused_wait(snjofrask_wait_step(&wait, 200, 1, 5, 1, OWN_INTERFACE, packet, lengths[i]), SNJOFRASK_REFUSAL_PACKET_SIZE));
+        CHECK(is_refused_wait(snjofrask_wait_step(&wait, 199, 2, 5, 0x80, 7, packet, lengths[i]), SNJOFRASK_REFUSAL_PACKET_SIZE));
+        CHECK(is_refused_wait(snjofrask_wait_step(&wait, 30100, 0, 5, 1, 7, packet, lengths[i]), SNJOFRASK_REFUSAL_PACKET_SIZE));
+        CHECK(is_refused_wait(snjofrask_wait_step(&wait, 199, 2, 5, 0, 7, packet, lengths[i]), SNJOFRASK_REFUSAL_TIME));
+    }
+    for (size_t i = 0; i < sizeof times / sizeof times[0]; i++) {
+        CHECK(is_refused_wait(snjofrask_wait_step(&wait, times[i], 1, 5, 0, OWN_INTERFACE, packet, 64), SNJOFRASK_REFUSAL_TIME));
+        CHECK(is_refused_wait(snjofrask_wait_step(&wait, times[i], 2, 5, 1, OWN_INTERFACE, packet, 64), SNJOFRASK_REFUSAL_TIME));
+        CHECK(is_refused_wait(snjofrask_wait_step(&wait, times[i], 0, 5, 1, 7, packet, 64), SNJOFRASK_REFUSAL_TIME));
+        CHECK(snjofrask_wait_elapsed(&wait, times[i]) == SNJOFRASK_REFUSAL_TIME);
+    }
+    CHECK(memcmp(&wait, &before, sizeof before) == 0);
+    CHECK(is_ended(step(&wait, 200, SNJOFRASK_PRESENCE_TIMEOUT, 1, OWN_INTERFACE), SNJOFRASK_WAIT_CANCELED, 0, 0));
+}
+
+/* contents that no call of ours left there: all of them mean something */
+static void wait_of_others(void)
+{
+    snjofrask_wait wait;
+
+    memset(&wait, 0, sizeof wait);
+    CHECK(snjofrask_wait_elapsed(&wait, 0) == 1);
+    CHECK(is_ended(step(&wait, 0, SNJOFRASK_PRESENCE_TOUCHED, 0, 0), SNJOFRASK_WAIT_TIMED_OUT, 0, 0));
+
+    /* over before its latest step */
+    wait.last = 10;
+    wait.deadline = 5;
+    CHECK(snjofrask_wait_elapsed(&wait, 9) == SNJOFRASK_REFUSAL_TIME && snjofrask_wait_elapsed(&wait, 10) == 1);
+
+    /* never over */
+    wait.deadline = ~(uint64_t)0;
+    CHECK(snjofrask_wait_elapsed(&wait, SNJOFRASK_LAST_TIME_MS) == 0);
+    CHECK(is_ended(step(&wait, SNJOFRASK_LAST_TIME_MS, SNJOFRASK_PRESENCE_TOUCHED, 0, 0), SNJOFRASK_WAIT_TOUCHED, 0, 0));
+
+    /* before its latest step at all times */
+    memset(&wait, 0xEE, sizeof wait);
+    CHECK(snjofrask_wait_elapsed(&wait, SNJOFRASK_LAST_TIME_MS) == SNJOFRASK_REFUSAL_TIME);
+    CHECK(is_refused_wait(snjofrask_wait_step(&wait, SNJOFRASK_LAST_TIME_MS, 1, 5, 0, 0, packet, 64), SNJOFRASK_REFUSAL_TIME));
+    CHECK(all_are((const uint8_t *)&wait, sizeof wait, 0xEE));
+}
+
+/* As a caller waits: to the limit, with one packet of another channel, and what is sent, in packets. */
+static void wait_of_a_caller(void)
+{
+    static const uint8_t keepalive[] = {0x92, 0x34, 0x56, 0x78, 0xBB, 0, 1, 2};
+    static const uint8_t busy[] = {0, 0, 0, 9, 0xBF, 0, 1, 6};
+    snjofrask_wait wait = begun(50, 1000);
+    uint64_t now = 50;
+    int sent = 0;
+
+    for (; snjofrask_wait_elapsed(&wait, now) == 0; now += SNJOFRASK_TIMEOUT_MS) {
+        const uint8_t arrived = now == 550;
+        snjofrask_wait_outcome outcome;
+
+        put(9, SNJOFRASK_CMD_CBOR, 1, 0);
+        outcome = step(&wait, now, SNJOFRASK_PRESENCE_TIMEOUT, arrived, 7);
+        CHECK(outcome.ending == SNJOFRASK_WAIT_NOT_YET && outcome.count == 1 + arrived);
+        for (int i = 0; i < outcome.count; i++, sent++) {
+            const snjofrask_sent one = outcome.sent[i];
+            const int is_for_another = i < arrived;
+
+            CHECK(snjofrask_write_packet(one.cid, one.cmd, &one.byte, 1, 0, packet, sizeof packet) == 0);
+            CHECK(one.interface == (is_for_another ? 7 : OWN_INTERFACE));
+            CHECK(memcmp(packet, is_for_another ? busy : keepalive, 8) == 0 && all_are(packet + 8, sizeof packet - 8, 0));
+        }
+    }
+    CHECK(now == 1050 && sent == 11);
+}
+
 int main(void)
 {
     for (size_t i = 0; i < sizeof payload; i++)
@@ -1005,5 +1303,15 @@ int main(void)
     lengths_to_a_state();
     flags_and_times();
     channels_and_commands();
+    wait_begins();
+    wait_elapses();
+    wait_goes_by_the_sensor();
+    wait_tells_others();
+    wait_is_canceled();
+    wait_drops_its_own();
+    wait_times_out();
+    wait_refusals();
+    wait_of_others();
+    wait_of_a_caller();
     return failures == 0 ? 0 : 1;
 }

@@ -37,8 +37,8 @@ void board_forget_touches(void);
 /* Whether the button was touched since touches were forgotten. */
 bool board_is_touched(void);
 
-/* How long a user is given for a touch, at most 2^32 - 1. */
-uint64_t board_touch_timeout_ms(void);
+/* How long a user is given for a touch. */
+uint32_t board_touch_timeout_ms(void);
 
 /* Switches the LED on or off. It may be as asked already. */
 void board_set_led(bool on);

@@ -24,7 +24,7 @@ static uint64_t start_ms;
 /* the button: how long after it is asked for a touch comes, when the next one comes, when waiting for it ends */
 static uint64_t touch_after_ms = NEVER_MS;
 static uint64_t touch_ms = NEVER_MS;
-static uint64_t touch_timeout_ms = TOUCH_TIMEOUT_MS;
+static uint32_t touch_timeout_ms = TOUCH_TIMEOUT_MS;
 
 static bool led_is_on;
 
@@ -56,7 +56,7 @@ static bool is_number(const char *text)
     return text[0] != '\0' && text[strspn(text, "0123456789")] == '\0';
 }
 
-static uint64_t milliseconds(const char *name, const char *text)
+static uint32_t milliseconds(const char *name, const char *text)
 {
     /* of too many digits it makes its largest */
     const unsigned long long number = strtoull(text, NULL, 10);
@@ -65,7 +65,7 @@ static uint64_t milliseconds(const char *name, const char *text)
         fprintf(stderr, "device: %s is %s, which is no number of milliseconds\n", name, text);
         exit(STATUS_WRONG_VARIABLE);
     }
-    return number;
+    return (uint32_t)number;
 }
 
 static uint64_t touch_variable(void)
@@ -80,7 +80,7 @@ static uint64_t touch_variable(void)
     return milliseconds(name, text);
 }
 
-static uint64_t touch_timeout_variable(void)
+static uint32_t touch_timeout_variable(void)
 {
     static const char name[] = "SNJOFRASK_TOUCH_TIMEOUT";
     const char *text = getenv(name);
@@ -209,7 +209,7 @@ bool board_is_touched(void)
     return board_now_ms() >= touch_ms;
 }
 
-uint64_t board_touch_timeout_ms(void)
+uint32_t board_touch_timeout_ms(void)
 {
     return touch_timeout_ms;
 }

@@ -6,7 +6,10 @@
 #include "board.h"
 #include "snjofrask.h"
 
-/* CTAP 2.1, 11.2.9.1.7: at least every 100 ms. As in OpenSK the first one comes when they have passed (DIFFERENCES 25). */
+/*
+ * CTAP 2.1, 11.2.9.1.7: at least every 100 ms. As in OpenSK the first one comes when they have passed, or sooner with a
+ * packet (DIFFERENCES 25).
+ */
 #define KEEPALIVE_EVERY_MS 100
 
 /* how often LED and button are looked at while no packet comes */
@@ -15,10 +18,9 @@
 /* flags of the library's calls */
 #define WITH_U2F 1
 #define ENABLED 0
-#define DISABLED 1
 
-/* How a wait for a touch ends. */
-enum wait_end { TOUCHED, CANCELLED, TIMED_OUT, DETACHED };
+/* The number of the board's one interface. A wait asks for it, as a key may have two. */
+#define INTERFACE 0
 
 /* All that the loop keeps. No two of them overlap, so all of them may be lent to the same call. */
 static snjofrask_device device;
@@ -31,6 +33,14 @@ static void expect_no_refusal(const char *call, uint8_t refusal)
 {
     if (refusal != 0)
         board_refused(call, refusal);
+}
+
+/* What a question answers: 0 for no, 1 for yes, or a refusal. */
+static bool is_yes(const char *call, uint8_t answer)
+{
+    if (answer > 1)
+        board_refused(call, answer);
+    return answer == 1;
 }
 
 /* ---- out */
@@ -71,22 +81,18 @@ static void send_outcome(snjofrask_outcome outcome)
         send_message(outcome.cid, outcome.cmd, reply, outcome.len);
 }
 
-static void send_keepalive(uint32_t cid)
+/* What a step of a wait says: that the device is busy, and KEEPALIVE. */
+static void send_waiting(snjofrask_wait_outcome outcome)
 {
-    static const uint8_t status[] = {SNJOFRASK_STATUS_UPNEEDED};
-
-    send_message(cid, SNJOFRASK_CMD_KEEPALIVE, status, sizeof status);
+    for (size_t i = 0; i < outcome.count; i++)
+        send_message(outcome.sent[i].cid, outcome.sent[i].cmd, &outcome.sent[i].byte, 1);
 }
 
 /* ---- in */
 
 static void show_wink(void)
 {
-    const uint8_t winking = snjofrask_is_winking(&device, board_now_ms());
-
-    if (winking > 1)
-        board_refused("snjofrask_is_winking", winking);
-    board_set_led(winking == 1);
+    board_set_led(is_yes("snjofrask_is_winking", snjofrask_is_winking(&device, board_now_ms())));
 }
 
 /* Every wait of the loop is here, so a wink ends in time though no packet comes. */
@@ -97,82 +103,107 @@ static enum board_event take_packet(uint64_t until_ms)
 }
 
 /* The packet goes in with the time when it came, not with the time now: board.h says why. */
-static snjofrask_outcome step(uint8_t disabled)
+static snjofrask_outcome step(void)
 {
     const snjofrask_outcome outcome =
-        snjofrask_device_step(&device, incoming.time_ms, disabled, incoming.bytes, sizeof incoming.bytes, message,
+        snjofrask_device_step(&device, incoming.time_ms, ENABLED, incoming.bytes, sizeof incoming.bytes, message,
                               sizeof message, reply, sizeof reply);
 
     expect_no_refusal("snjofrask_device_step", outcome.refusal);
     return outcome;
 }
 
-static bool is_cancel(uint32_t cid)
-{
-    const snjofrask_outcome packet = snjofrask_read_packet(incoming.bytes, sizeof incoming.bytes);
+/* ---- a wait for a touch */
 
-    expect_no_refusal("snjofrask_read_packet", packet.refusal);
-    return packet.kind == SNJOFRASK_KIND_FIRST && packet.cid == cid && packet.cmd == SNJOFRASK_CMD_CANCEL;
-}
-
-/* ---- a request */
+/* What came while the loop waited. */
+struct news {
+    bool touched;
+    enum board_event event;
+};
 
 static uint64_t earlier(uint64_t a_ms, uint64_t b_ms)
 {
     return a_ms < b_ms ? a_ms : b_ms;
 }
 
-/* The library has no state for a request that is being worked on, so CANCEL is looked for here. */
-static enum wait_end wait_for_touch(uint32_t cid)
+/*
+ * Waits for a touch, a packet or a time, whichever comes first. LED and button are looked at every tick. When the touch or
+ * the time has come, a packet that is in the queue is still taken: it may be CANCEL.
+ */
+static struct news wait_for_news(uint64_t until_ms)
 {
-    board_forget_touches();
-    const uint64_t begun_ms = board_now_ms();
-    const uint64_t end_ms = begun_ms + board_touch_timeout_ms();
-    uint64_t keepalive_ms = begun_ms + KEEPALIVE_EVERY_MS;
-
     for (;;) {
         const uint64_t now_ms = board_now_ms();
+        const bool touched = board_is_touched();
+        const bool is_over = touched || now_ms >= until_ms;
+        const enum board_event event = take_packet(is_over ? now_ms : earlier(now_ms + TICK_MS, until_ms));
 
-        if (board_is_touched())
-            return TOUCHED;
-        if (now_ms >= end_ms)
-            return TIMED_OUT;
-        if (now_ms >= keepalive_ms) {
-            send_keepalive(cid);
-            keepalive_ms += KEEPALIVE_EVERY_MS;
-        }
-
-        const enum board_event event = take_packet(earlier(now_ms + TICK_MS, keepalive_ms));
-
-        if (event == BOARD_DETACHED)
-            return DETACHED;
-        if (event == BOARD_PACKET && is_cancel(cid))
-            return CANCELLED;
-        if (event == BOARD_PACKET)
-            send_outcome(step(DISABLED));
+        if (is_over || event != BOARD_NOTHING)
+            return (struct news){touched, event};
     }
 }
 
-/* The request is a copy, as packets that come during the wait have outcomes of their own. False once detached. */
+/* Its time is the one before waiting, as the header has it. */
+static uint8_t wait_step(snjofrask_wait *wait, uint64_t time_ms, struct news news)
+{
+    const uint8_t presence = news.touched ? SNJOFRASK_PRESENCE_TOUCHED : SNJOFRASK_PRESENCE_TIMEOUT;
+    const snjofrask_wait_outcome outcome =
+        snjofrask_wait_step(wait, time_ms, presence, 0, news.event == BOARD_PACKET, INTERFACE, incoming.bytes,
+                            sizeof incoming.bytes);
+
+    expect_no_refusal("snjofrask_wait_step", outcome.refusal);
+    send_waiting(outcome);
+    return outcome.ending;
+}
+
+/* How the wait ends: TOUCHED, CANCELED or TIMED_OUT. It is left as NOT_YET once detached. */
+static uint8_t wait_for_touch(uint32_t cid)
+{
+    snjofrask_wait wait;
+    uint8_t ending = SNJOFRASK_WAIT_NOT_YET;
+
+    board_forget_touches();
+    expect_no_refusal("snjofrask_wait_begin",
+                      snjofrask_wait_begin(&wait, INTERFACE, cid, board_now_ms(), board_touch_timeout_ms()));
+    while (ending == SNJOFRASK_WAIT_NOT_YET) {
+        const uint64_t now_ms = board_now_ms();
+
+        if (is_yes("snjofrask_wait_elapsed", snjofrask_wait_elapsed(&wait, now_ms)))
+            return SNJOFRASK_WAIT_TIMED_OUT;
+
+        /* a step without a touch sends KEEPALIVE, so there is none at a tick that brings nothing */
+        const struct news news = wait_for_news(now_ms + KEEPALIVE_EVERY_MS);
+
+        /* what was touched for is still answered */
+        if (news.event == BOARD_DETACHED && !news.touched)
+            break;
+        ending = wait_step(&wait, now_ms, news);
+    }
+    return ending;
+}
+
+/* ---- a request */
+
+/* False once detached. */
 static bool answer_request(snjofrask_outcome request)
 {
     struct authenticator_answer answer = authenticator_ask(request.cmd, message, request.len);
-    enum wait_end end = TOUCHED;
+    uint8_t ending = SNJOFRASK_WAIT_TOUCHED;
 
     board_log_request(request.cid, request.cmd, message, request.len);
-    /* what comes during the wait is stepped as disabled, which leaves message alone: the request still stands there */
     if (answer.wants_touch)
-        end = wait_for_touch(request.cid);
-    switch (end) {
-    case TOUCHED:
+        ending = wait_for_touch(request.cid);
+    switch (ending) {
+    case SNJOFRASK_WAIT_TOUCHED:
         break;
-    case CANCELLED:
+    case SNJOFRASK_WAIT_CANCELED:
         answer = authenticator_cancelled;
         break;
-    case TIMED_OUT:
+    case SNJOFRASK_WAIT_TIMED_OUT:
         answer = authenticator_timed_out;
         break;
-    case DETACHED:
+    default:
+        /* detached; this button can't fail */
         return false;
     }
     send_answer(request.cid, request.cmd, answer);
@@ -184,7 +215,7 @@ static bool answer_request(snjofrask_outcome request)
 /* False once detached. */
 static bool serve_packet(void)
 {
-    const snjofrask_outcome outcome = step(ENABLED);
+    const snjofrask_outcome outcome = step();
 
     if (outcome.kind == SNJOFRASK_KIND_MESSAGE)
         return answer_request(outcome);

@@ -10,6 +10,7 @@
 //! - MSG and CBOR come back to the caller, who sends the whole answer by [`CtapHid::split_message`]. So do the vendor
 //!   commands that are listed at set-up; OpenSK has none.
 //! - A command that the device doesn't know is told so at its first packet, and not when the message is whole.
+//! - A wait for a touch, [`check_user_presence`], takes its limit as an argument, and asks the key for the rest: [`Env`].
 //!
 //! A device:
 //!
@@ -68,6 +69,7 @@ mod message;
 #[allow(unsafe_code, dead_code)]
 mod raw;
 mod send;
+mod touch;
 
 pub use hid::{CtapHid, Parsed};
 pub use host::{Collection, InitReply, Progress, init_reply};
@@ -77,6 +79,10 @@ pub use message::{
     Message, ProcessedPacket, Refusal, VendorCommand,
 };
 pub use send::HidPacketIterator;
+pub use touch::{
+    Channel, Ending, Env, RecvStatus, Responded, UserPresence, UserPresenceError, Wait,
+    check_user_presence,
+};
 
 /// The largest payload of a message, in bytes.
 pub const LARGEST_PAYLOAD: usize = 7609;

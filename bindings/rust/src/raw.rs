@@ -70,11 +70,43 @@ pub struct InitOutcome {
     pub nonce: [u8; 8],
 }
 
+#[repr(C)]
+#[derive(Clone, Copy, Debug, Default, PartialEq, Eq)]
+pub struct Wait {
+    pub deadline: u64,
+    pub last: u64,
+    pub interface: u32,
+    pub cid: u32,
+}
+
+#[repr(C)]
+#[derive(Clone, Copy, Debug, Default, PartialEq, Eq)]
+pub struct Sent {
+    pub interface: u32,
+    pub cid: u32,
+    pub cmd: u8,
+    pub byte: u8,
+    pub spare: u16,
+}
+
+#[repr(C)]
+#[derive(Clone, Copy, Debug, Default, PartialEq, Eq)]
+pub struct WaitOutcome {
+    pub sent: [Sent; 2],
+    pub count: u8,
+    pub ending: u8,
+    pub error: u8,
+    pub refusal: u8,
+}
+
 const _: () = assert!(size_of::<MessageAssembler>() == 24 && size_of::<CtapHid>() == 64);
 const _: () = assert!(size_of::<MainHid>() == 72 && size_of::<Collection>() == 6);
 const _: () = assert!(size_of::<Outcome>() == size_of::<usize>() + 8);
 const _: () = assert!(size_of::<InitOutcome>() == 20);
+const _: () = assert!(size_of::<Wait>() == 24 && size_of::<Sent>() == 12);
+const _: () = assert!(size_of::<WaitOutcome>() == 28);
 const _: () = assert!(align_of::<CtapHid>() == 8 && align_of::<MainHid>() == 8);
+const _: () = assert!(align_of::<Wait>() == 8 && align_of::<WaitOutcome>() == 4);
 
 pub mod kind {
     pub const REFUSED: u8 = 0;
@@ -89,6 +121,21 @@ pub mod kind {
     pub const KEEPALIVE: u8 = 9;
     pub const WAITING: u8 = 10;
     pub const COLLECTED: u8 = 11;
+}
+
+pub mod presence {
+    pub const TIMEOUT: u8 = 0;
+    pub const TOUCHED: u8 = 1;
+    pub const FAILED: u8 = 2;
+}
+
+pub mod ending {
+    pub const REFUSED: u8 = 0;
+    pub const NOT_YET: u8 = 1;
+    pub const TOUCHED: u8 = 2;
+    pub const CANCELED: u8 = 3;
+    pub const FAILED: u8 = 4;
+    pub const TIMED_OUT: u8 = 5;
 }
 
 #[link(name = "snjofrask", kind = "static")]
@@ -161,6 +208,19 @@ unsafe extern "C" {
         buffer_len: usize,
     ) -> Outcome;
     fn snjofrask_init_reply(cmd: u8, payload: *const u8, payload_len: usize) -> InitOutcome;
+    fn snjofrask_wait_begin(wait: *mut Wait, interface: u32, cid: u32, time: u64, limit: u32)
+    -> u8;
+    fn snjofrask_wait_elapsed(wait: *const Wait, time: u64) -> u8;
+    fn snjofrask_wait_step(
+        wait: *mut Wait,
+        time: u64,
+        presence: u8,
+        error: u8,
+        arrived: u8,
+        interface: u32,
+        packet: *const u8,
+        packet_len: usize,
+    ) -> WaitOutcome;
 }
 
 pub fn transport_new(hid: &mut CtapHid, max: usize, u2f: bool, vendor: &[u8]) -> u8 {
@@ -289,4 +349,35 @@ pub fn host_read(
 
 pub fn init_reply(cmd: u8, payload: &[u8]) -> InitOutcome {
     unsafe { snjofrask_init_reply(cmd, payload.as_ptr(), payload.len()) }
+}
+
+pub fn wait_begin(wait: &mut Wait, interface: u32, cid: u32, time: u64, limit: u32) -> u8 {
+    unsafe { snjofrask_wait_begin(wait, interface, cid, time, limit) }
+}
+
+pub fn wait_elapsed(wait: &Wait, time: u64) -> u8 {
+    unsafe { snjofrask_wait_elapsed(wait, time) }
+}
+
+pub fn wait_step(
+    wait: &mut Wait,
+    time: u64,
+    presence: u8,
+    error: u8,
+    arrived: bool,
+    interface: u32,
+    packet: &[u8],
+) -> WaitOutcome {
+    unsafe {
+        snjofrask_wait_step(
+            wait,
+            time,
+            presence,
+            error,
+            arrived as u8,
+            interface,
+            packet.as_ptr(),
+            packet.len(),
+        )
+    }
 }

@@ -9,8 +9,8 @@ pub mod Settings
 pub mod Receiver
 pub mod Transport
 pub mod Device
-pub mod Host
 pub mod Touch
+pub mod Host
 pub mod Refusals
 pub mod Rows
 pub mod Demands
