@@ -3,14 +3,20 @@
 pub mod hid;
 pub mod main_hid;
 pub mod status_code;
+#[cfg(feature = "vendor_hid")]
+mod wait;
 
-use self::hid::{ChannelID, CtapHidCommand};
+use self::hid::CtapHidCommand;
+#[cfg(feature = "vendor_hid")]
+pub use self::wait::*;
 use crate::env::Env;
 use alloc::vec::Vec;
 use core::marker::PhantomData;
 
+/// With vendor_hid it is the real one.
+#[cfg(not(feature = "vendor_hid"))]
 pub enum Channel {
-    MainHid(ChannelID),
+    MainHid(hid::ChannelID),
 }
 
 /// Stands for the authenticator: keeps what the transport hands over, and answers with `reply`.

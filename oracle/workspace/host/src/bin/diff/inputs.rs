@@ -1,6 +1,7 @@
 //! The traffic as lines: for the bench program, and for crates/replay.
 use crate::pair::{Pair, Setup, Step, U2F};
-use crate::traffic::{self, Hosts, Random};
+use crate::random::Random;
+use crate::traffic::{self, Hosts};
 use crate::{Driver, hex};
 use std::io::{BufWriter, Result, Write, stdout};
 

@@ -11,14 +11,16 @@ mod definition;
 mod inputs;
 mod ours;
 mod pair;
+mod random;
 mod traffic;
 
 use definition::{FAULTS, VENDOR};
 use ours::{ECHO, MESSAGE, NOTHING};
 use pair::{Pair, Setup, Step, U2F};
+use random::Random;
 use std::process::exit;
 use std::sync::Arc;
-use traffic::{Hosts, Random};
+use traffic::Hosts;
 
 struct Driver {
     seed: u64,
