@@ -150,11 +150,11 @@ module _ (active : Place) (until time : ℕ) (a : Arrival) (on-time : time < unt
 
 -- a packet
 module _ (active : Place) (until time i : ℕ) (p : List ℕ) (s : Sensor) (on-time : time < until) where
-  abbrev there-is : Arrival
-  there-is = packet i p
+  abbrev arrived : Arrival
+  arrived = packet i p
 
   abbrev moment : Moment
-  moment = record { time = time; arrival = there-is; sensor = s }
+  moment = record { time = time; arrival = arrived; sensor = s }
 
   abbrev S : Type 0
   S = RightStep active until moment (onPacket active i (read p) s)
@@ -166,14 +166,14 @@ module _ (active : Place) (until time i : ℕ) (p : List ℕ) (s : Sensor) (on-t
       ((on-time, (j, c, b)), silent-sends active until moment cancelled tt (λ q h f o. o (sym (f .0) ∙ j) (sym (f .1) ∙ c)))
   own j c (no b) =
       simp (on-read p, eq-eqb i (active .interface) j, eq-eqb (on p) (active .channel) c, cancel-not p b)
-      (sensor-right active until time there-is on-time (λ k. b (k .2)) (λ q f o. o (sym (f .0) ∙ j) (sym (f .1) ∙ c)) s)
+      (sensor-right active until time arrived on-time (λ k. b (k .2)) (λ q f o. o (sym (f .0) ∙ j) (sym (f .1) ∙ c)) s)
 
   foreign : Other (place i (on p)) active → S
   unfolding onPacket isSame pick
   foreign n = by-interface (ℕ-discrete i (active .interface))
     where
       told : RightStep active until moment (before (busy (place i (on p))) (onSensor active s))
-      told = busy-right active until time there-is on-time (λ k. n (k .0) (k .1)) (place i (on p)) (λ q f. λ k. place (f .0 k) (f .1 k)) (refl, refl) n s
+      told = busy-right active until time arrived on-time (λ k. n (k .0) (k .1)) (place i (on p)) (λ q f. λ k. place (f .0 k) (f .1 k)) (refl, refl) n s
 
       by-interface : Dec (i ≡ active .interface) → S
       by-interface (yes j) = simp (on-read p, eq-eqb i (active .interface) j, ne-eqb (on p) (active .channel) (n j)) told

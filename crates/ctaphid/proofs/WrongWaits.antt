@@ -32,7 +32,7 @@ busy-to-all-caught right =
 
 -- ---- CANCEL and a touch at one step
 pub touch-first-caught : Waits touchFirst → ⊥
-unfolding pick
+unfolding read channelIn declaredIn isSame isCancel onPacket onArrival touchStep pick
 touch-first-caught right =
     asked touchFirst right (moment 0 (packet 1 cancel-1) touch) (omega arith) refl .0 .1 (refl, refl, refl)
 

@@ -28,8 +28,15 @@ isTouch touch = true
 isTouch timeout = false
 isTouch (error number) = false
 
+abbrev pub unheard : Response → Ending → Response
+unheard r notYet = r
+unheard r touched = r
+unheard r cancelled = respond [] touched
+unheard r timedOut = r
+unheard r (failed number) = r
+
 abbrev pub touchFirst : AnyWait
-touchFirst = waiting (λ w m. pick (isTouch (m .sensor)) (respond [] touched) (touchStep w m))
+touchFirst = waiting (λ w m. pick (isTouch (m .sensor)) (unheard (touchStep w m) (touchStep w m .ending)) (touchStep w m))
 
 -- a CANCEL is followed by a KEEPALIVE
 abbrev pub answering : Place → Response → Ending → Response

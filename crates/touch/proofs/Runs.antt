@@ -4,7 +4,7 @@ use mathlib.Core.Path.{_≡_, refl, sym, ap, subst, _∙_}
 use mathlib.Core.List.{List, [], _∷_}
 use mathlib.Core.Bool.{true, false, not}
 use mathlib.Core.Logic.{_⊎_, inl, inr}
-use borrow.Author.Tests.{le-ltb, ltb-false, eq-eqb}
+use borrow.Author.Tests.{le-ltb, eq-eqb}
 use lib.ListN.{length}
 use lib.Dec.{ltb}
 use Rattle.ctaphid.specs.Choice.{pick}
@@ -18,7 +18,6 @@ use Rattle.touch.specs.declared.Wait.{Wait}
 use Rattle.touch.specs.declared.Responded.{Responded}
 use Rattle.touch.specs.Meaning.{waitMeant, arrivalMeant, sensorMeant, responseOf, responseMeant, endingOf}
 use Rattle.touch.specs.Waiting.{beginOf, isCut, at, stepOf}
-use Rattle.touch.proofs.Stepping.{whole-packet}
 use Rattle.touch.specs.Runs.{presenceOf, receivedOf, bytesOf, called, begins, theCode, isRefused, accepted, answered, WaitsAmongRefused}
 
 -- ---- what is laid out is read back
@@ -73,13 +72,9 @@ said-sensor (standard.error n) = refl
 abbrev taking : Wait → Moment → Responded
 taking w m = record { wait = at (m .time) w; response = responseOf (touchStep (waitMeant w) m) }
 
-not-cut : (a : Arrival) → Whole a → isCut (receivedOf a) (length (bytesOf a)) ≡ false
-not-cut standard.none h = refl
-not-cut (standard.packet i p) h = ap not (eq-eqb (length p) packetSize h)
-
-whole : (a : Arrival) → isCut (receivedOf a) (length (bytesOf a)) ≡ false → Whole a
-whole standard.none h = tt
-whole (standard.packet i p) h = whole-packet (receivedOf (standard.packet i p)) (length p) h refl
+whole-arrival : (a : Arrival) → Whole a → isCut (receivedOf a) (length (bytesOf a)) ≡ false
+whole-arrival standard.none h = refl
+whole-arrival (standard.packet i p) h = ap not (eq-eqb (length p) packetSize h)
 
 is-taking : (w : Wait) (m : Moment)
     → _≡_ {A = Responded} (record { wait = at (m .time) w; response = responseOf (touchStep (waitMeant w) (record { time = m .time; arrival = arrivalMeant (receivedOf (m .arrival)) (bytesOf (m .arrival)); sensor = sensorMeant (presenceOf (m .sensor)) })) })
@@ -89,26 +84,23 @@ is-taking w m = λ i. record { wait = at (m .time) w; response = responseOf (tou
 taken : (w : Wait) (m : Moment) → w .last ≤ m .time → m .time ≤ lastTime → Whole (m .arrival) → called w m ≡ taking w m
 unfolding stepOf pick
 taken w m onward in-range h =
-    simp (not-cut (m .arrival) h, le-ltb lastTime (m .time) in-range, le-ltb (m .time) (w .last) onward) (is-taking w m)
+    simp (whole-arrival (m .arrival) h, le-ltb lastTime (m .time) in-range, le-ltb (m .time) (w .last) onward) (is-taking w m)
 
 -- ---- any call: it is refused and alters nothing, or it is taken
 abbrev Refuses : Wait → Responded → Type 0
 Refuses w r = (r .wait ≡ w) × (isRefused (r .response .ending) ≡ true)
 
-abbrev Takes : Wait → Moment → Responded → Type 0
-Takes w m r = (r ≡ taking w m) × (w .last ≤ m .time)
-
-either : (w : Wait) (m : Moment) → Refuses w (called w m) ⊎ Takes w m (called w m)
+either : (w : Wait) (m : Moment) → Refuses w (called w m) ⊎ (called w m ≡ taking w m)
 unfolding stepOf
 either w m =
     pick-known S (isCut (receivedOf (m .arrival)) (length (bytesOf (m .arrival)))) _ _
     (λ e. inl (refl, refl))
     (λ e. pick-known S (ltb lastTime (m .time)) _ _
     (λ e. inl (refl, refl))
-    (λ e. pick-known S (ltb (m .time) (w .last)) _ _ (λ e. inl (refl, refl)) (λ e. inr (is-taking w m, ltb-false (m .time) (w .last) e))))
+    (λ e. pick-known S (ltb (m .time) (w .last)) _ _ (λ e. inl (refl, refl)) (λ e. inr (is-taking w m))))
   where
     S : Responded → Type 0
-    S r = Refuses w r ⊎ Takes w m r
+    S r = Refuses w r ⊎ (r ≡ taking w m)
 
 not-refused : (r : standard.Response) → isRefused (responseOf r .ending) ≡ false
 unfolding responseOf
@@ -135,11 +127,11 @@ module _ (w : Wait) (m : Moment) (rest : List Moment) (rec : (v : Wait) → Righ
   abbrev Answered : standard.Response → Type 0
   Answered x = RightFrom w (m ∷ accepted (at (m .time) w) rest) (x ∷ goingOn (x .ending) (answered (at (m .time) w) rest))
 
-  one-call : Refuses w (called w m) ⊎ Takes w m (called w m) → Asked (called w m)
+  one-call : Refuses w (called w m) ⊎ (called w m ≡ taking w m) → Asked (called w m)
   unfolding pick
   one-call (inl (same, refused)) =
       simp refused (subst (λ (v : Wait). RightFrom v (accepted (called w m .wait) rest) (answered (called w m .wait) rest)) same (rec (called w m .wait)))
-  one-call (inr (is, onward)) = subst Asked (sym is) (simp (not-refused (touchStep (waitMeant w) m)) (subst Answered (sym (back (waitMeant w) m)) step))
+  one-call (inr is) = subst Asked (sym is) (simp (not-refused (touchStep (waitMeant w) m)) (subst Answered (sym (back (waitMeant w) m)) step))
     where
       step : Answered (touchStep (waitMeant w) m)
       step =
