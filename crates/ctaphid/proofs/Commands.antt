@@ -59,7 +59,7 @@ Named WINK = Unit {0}
 Named LOCK = Unit {0}
 Named (VENDOR n) = isVendor n ≡ true
 
-reads-named : (n : ℕ) → Named (commandOf n)
+pub reads-named : (n : ℕ) → Named (commandOf n)
 unfolding among
 reads-named n =
     pick-both Named _ _ _ tt (pick-both Named _ _ _ tt (pick-both Named _ _ _ tt (pick-both Named _ _ _ tt (pick-both Named _ _ _ tt (pick-both Named _ _ _ tt (pick-both Named _ _ _ tt (pick-both Named _ _ _ tt (pick-both Named _ _ _ tt (pick-known Named (isVendor n) _ _ (λ v. v) (λ v. tt))))))))))

@@ -8,6 +8,7 @@ pub mod Transport
 pub mod Device
 pub mod Forgetting
 pub mod Invariant
+pub mod Handed
 pub mod Steps
 pub mod StillDue
 pub mod Waits
@@ -30,3 +31,12 @@ pub mod WrongBounds
 pub mod Rows
 pub mod RoundTrip
 pub mod InitReplies
+pub mod Interfaces
+pub mod Behind
+pub mod KeyBounds
+pub mod KeyDelivery
+pub mod KeyShares
+pub mod KeyListing
+pub mod KeyRows
+pub mod KeyInstances
+pub mod WrongKeys

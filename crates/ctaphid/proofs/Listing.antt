@@ -117,10 +117,10 @@ module _ (l : List ℕ) where
 
   -- ---- the device
 
-  abbrev relistedDevice : Device → Device
+  abbrev pub relistedDevice : Device → Device
   relistedDevice o = device (relisted (o .transport)) (o .wink)
 
-  abbrev relistedLeads : Next Device → Next Device
+  abbrev pub relistedLeads : Next Device → Next Device
   relistedLeads n = next (relistedDevice (n .state)) (n .answer)
 
   abbrev LeadAlike : Next Device → Next Device → Type 0
@@ -155,10 +155,10 @@ Lists l set = (n : ℕ) → isIn n l ≡ isIn n (set .vendor)
 lists-as : (l : List ℕ) (a b : Settings) → b ≡ a → Lists l a → Lists l b
 lists-as l a b e same n = same n ∙ ap (λ (set : Settings). isIn n (set .vendor)) (sym e)
 
-lists-on : (l : List ℕ) (d : Transport) (e : Event) → Lists l (d .settings) → Lists l (step d e .state .settings)
+pub lists-on : (l : List ℕ) (d : Transport) (e : Event) → Lists l (d .settings) → Lists l (step d e .state .settings)
 lists-on l d e same = lists-as l _ _ (same-settings d (e .time) (e .disabled) (read (e .packet))) same
 
-step-alike : (l : List ℕ) (d : Transport) (e : Event) → Lists l (d .settings) → step (relisted l d) e ≡ relistedNext l (step d e)
+pub step-alike : (l : List ℕ) (d : Transport) (e : Event) → Lists l (d .settings) → step (relisted l d) e ≡ relistedNext l (step d e)
 step-alike l d e h = hear-alike l d h (e .time) (e .disabled) (read (e .packet))
 
 pub run-alike : (set : Settings) (l : List ℕ) → Lists l set → (events : List Event) → run (fresh (listing l set)) events ≡ run (fresh set) events
@@ -189,12 +189,12 @@ device-stays : (o : Device) (e : Event) → deviceStep o e .state .transport ≡
 device-stays o e = same-transport (e .time) (o .wink) (step (o .transport) e .state) (step (o .transport) e .answer)
 
 module _ (l : List ℕ) where
-  leads : (o : Device) (e : Event) → Lists l (o .transport .settings) → deviceStep (relistedDevice l o) e ≡ relistedLeads l (deviceStep o e)
+  pub leads : (o : Device) (e : Event) → Lists l (o .transport .settings) → deviceStep (relistedDevice l o) e ≡ relistedLeads l (deviceStep o e)
   leads o e h =
       ap (λ (n : Next Transport). answered (e .time) (o .wink) (n .state) (n .answer)) (step-alike l (o .transport) e h)
       ∙ answered-alike l (e .time) (o .wink) (step (o .transport) e .state) (step (o .transport) e .answer)
 
-  leads-on : (o : Device) (e : Event) → Lists l (o .transport .settings) → Lists l (deviceStep o e .state .transport .settings)
+  pub leads-on : (o : Device) (e : Event) → Lists l (o .transport .settings) → Lists l (deviceStep o e .state .transport .settings)
   leads-on o e h = lists-as l _ _ (ap (λ (d : Transport). d .settings) (device-stays o e)) (lists-on l (o .transport) e h)
 
 pub only-members-count : OnlyMembersCount

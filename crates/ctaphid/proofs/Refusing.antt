@@ -6,7 +6,7 @@ use mathlib.Core.Bool.{Bool, true, false, cond, true≢false}
 use borrow.Author.Tests.{eqb-false}
 use lib.Dec.{eqb}
 use Rattle.ctaphid.specs.Choice.{pick, refusing}
-use Rattle.ctaphid.proofs.Tests.{pick-known}
+use Rattle.ctaphid.proofs.Tests.{pick-known, both-pick}
 
 -- the first number, or 0
 abbrev pub firstOf : List (Bool × ℕ) → ℕ
@@ -58,9 +58,18 @@ each-way P f [] a refused p = p tt
 each-way P f ((test, number) ∷ rest) a refused p =
     pick-known P test (f number) _ (λ e. refused .0) (λ e. each-way P f rest a (refused .1) (λ passed. p (e, passed)))
 
-pub either-way : {A : Type 0} (P : A → Type 0) (f : ℕ → A) (tests : List (Bool × ℕ)) (a : A) → ((n : ℕ) → P (f n)) → P a → P (refusing f tests a)
-either-way P f tests a refused p = each-way P f tests a (all tests) (λ passed. p)
+pub refused-or : {A : Type 0} (P : A → Type 0) (f : ℕ → A) (tests : List (Bool × ℕ)) (a : A) → ((n : ℕ) → P (f n)) → (Passed tests → P a) → P (refusing f tests a)
+refused-or P f tests a refused p = each-way P f tests a (all tests) p
   where
     all : (tests : List (Bool × ℕ)) → Each (λ n. P (f n)) tests
     all [] = tt
     all ((test, number) ∷ rest) = (refused number, all rest)
+
+pub either-way : {A : Type 0} (P : A → Type 0) (f : ℕ → A) (tests : List (Bool × ℕ)) (a : A) → ((n : ℕ) → P (f n)) → P a → P (refusing f tests a)
+either-way P f tests a refused p = refused-or P f tests a refused (λ passed. p)
+
+-- and what holds of two that go by the same tests
+pub same-way : {A B : Type 0} (P : A → B → Type 0) (f : ℕ → A) (g : ℕ → B) (tests : List (Bool × ℕ)) (a : A) (b : B) → ((n : ℕ) → P (f n) (g n)) → (Passed tests → P a b) → P (refusing f tests a) (refusing g tests b)
+same-way P f g [] a b refused p = p tt
+same-way P f g ((test, number) ∷ rest) a b refused p =
+    both-pick P test (f number) _ (g number) _ (λ e. refused number) (λ e. same-way P f g rest a b refused (λ passed. p (e, passed)))
