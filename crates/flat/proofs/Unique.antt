@@ -3,6 +3,7 @@ use mathlib.Core.Path.{refl, sym, ap, _∙_}
 use Rattle.outcome.specs.One.{OneOutcome, from-facts}
 use Rattle.flat.specs.Telling.{Flattened, MainFlattened, HostFlattened, Putting}
 use Rattle.flat.proofs.outcome_of as outcome-of
+use Rattle.flat.proofs.running_number as running-number
 use Rattle.flat.proofs.transport_step as transport-step
 use Rattle.flat.proofs.device_step as device-step
 use Rattle.flat.proofs.is_locked as is-locked
@@ -21,6 +22,12 @@ use Rattle.flat.proofs.waiting.wait_step as wait-step
 
 pub outcome-of-one : OneOutcome outcome-of.ended (λ M 𝓤. outcome-of.clauses 𝓤) (λ M 𝓤. outcome-of.spec 𝓤)
 outcome-of-one = record {
+  stated = λ M 𝓤 H A mem run. refl;
+  one = λ 𝓤 H A mem run κs a g x y v w. from-facts 𝓤 (λ p q. (p ∙ sym q, refl));
+}
+
+pub running-number-one : OneOutcome running-number.ended (λ M 𝓤. running-number.clauses 𝓤) (λ M 𝓤. running-number.spec 𝓤)
+running-number-one = record {
   stated = λ M 𝓤 H A mem run. refl;
   one = λ 𝓤 H A mem run κs a g x y v w. from-facts 𝓤 (λ p q. (p ∙ sym q, refl));
 }

@@ -168,7 +168,7 @@ pub fn device_step(
 }
 
 // 0 for no, 1 for yes, else the refusal's number, 3 or 4.
-fn running_number(running: Running) -> u8
+pub fn running_number(running: Running) -> u8
     ensures { λ r. ⌜ r ≡ runningNumber running ⌝ }
 {
     match running {

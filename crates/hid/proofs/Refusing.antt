@@ -19,7 +19,7 @@ use Rattle.hid.specs.Soundness.{Sound, isSound}
 use Rattle.hid.specs.Hearing.{Stepping, stepping, heardOf, Admits}
 use Rattle.hid.specs.Refusals.{refusals, refusedTime, refusalOf}
 use Rattle.hid.specs.Transport.{admittedOf}
-use Rattle.hid.specs.Questions.{runningAt, runningOf}
+use Rattle.hid.specs.Questions.{runningAt, runningWhere}
 use Rattle.hid.proofs.Sound.{sound-is}
 
 -- ---- which number
@@ -50,13 +50,13 @@ module _ (s : CtapHid) (wink time size room short : ℕ) where
 pub ruleset refusal = (refusal-1, refusal-2, refusal-short, refusal-3, refusal-4)
 
 -- ---- a question
-module _ (s : CtapHid) (wink time until : ℕ) (b : Bool) (e : b ≡ isSound s wink) where
-  pub running-unsound : b ≡ false → running.Refused 3 ≡ runningOf s wink time until
-  unfolding runningOf pick
+module _ (sound : Bool) (last time until : ℕ) (b : Bool) (e : b ≡ sound) where
+  pub running-unsound : b ≡ false → running.Refused 3 ≡ runningWhere sound last time until
+  unfolding pick
   running-unsound k = simp (sym e ∙ k)
 
-  pub running-sound : (r : Running) → b ≡ true → r ≡ runningAt (s .last) time until → r ≡ runningOf s wink time until
-  unfolding runningOf pick
+  pub running-sound : (r : Running) → b ≡ true → r ≡ runningAt last time until → r ≡ runningWhere sound last time until
+  unfolding pick
   running-sound r k h = simp (sym e ∙ k) h
 
 -- ---- none refuses

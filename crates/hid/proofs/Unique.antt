@@ -2,6 +2,8 @@
 use mathlib.Core.Path.{refl, sym, ap, _∙_}
 use Rattle.outcome.specs.One.{OneOutcome, from-facts}
 use Rattle.hid.specs.Hearing.{Stepping}
+use Rattle.hid.proofs.soundness.is_sound as is-sound
+use Rattle.hid.proofs.questions.running_soundly as running-soundly
 use Rattle.hid.proofs.CtapHid.new as new
 use Rattle.hid.proofs.CtapHid.step as step
 use Rattle.hid.proofs.CtapHid.is_locked_at as is-locked-at
@@ -34,6 +36,18 @@ parse-packet-one = record {
 
 pub has-channel-lock-one : OneOutcome has-channel-lock.ended (λ M 𝓤. has-channel-lock.clauses 𝓤) (λ M 𝓤. has-channel-lock.spec 𝓤)
 has-channel-lock-one = record {
+  stated = λ M 𝓤 H A mem run. refl;
+  one = λ 𝓤 H A mem run κs a g x y v w. from-facts 𝓤 (λ p q. (p ∙ sym q, refl));
+}
+
+pub is-sound-one : OneOutcome is-sound.ended (λ M 𝓤. is-sound.clauses 𝓤) (λ M 𝓤. is-sound.spec 𝓤)
+is-sound-one = record {
+  stated = λ M 𝓤 H A mem run. refl;
+  one = λ 𝓤 H A mem run κs a g x y v w. from-facts 𝓤 (λ p q. (p ∙ sym q, refl));
+}
+
+pub running-soundly-one : OneOutcome running-soundly.ended (λ M 𝓤. running-soundly.clauses 𝓤) (λ M 𝓤. running-soundly.spec 𝓤)
+running-soundly-one = record {
   stated = λ M 𝓤 H A mem run. refl;
   one = λ 𝓤 H A mem run κs a g x y v w. from-facts 𝓤 (λ p q. (p ∙ sym q, refl));
 }

@@ -1,7 +1,7 @@
 -- Whether a lock, or a wink, runs at a time. Assumes nothing.
 use Prim.Native.Nat.{ℕ}
 use mathlib.Core.List.{[], _∷_}
-use mathlib.Core.Bool.{not}
+use mathlib.Core.Bool.{Bool, not}
 use lib.Dec.{ltb}
 use Rattle.ctaphid.specs.Choice.{pick, refusing}
 use Rattle.ctaphid.specs.Refusals.{untimely}
@@ -16,8 +16,11 @@ abbrev pub runningAt : (last time until : ℕ) → Running
 runningAt last time until = refusing Refused (untimely last time) (pick (ltb time until) Yes No)
 
 -- refusals 3 and 4, and no other
+abbrev pub runningWhere : (sound : Bool) → (last time until : ℕ) → Running
+runningWhere sound last time until = refusing Refused ((not sound, 3) ∷ []) (runningAt last time until)
+
 unfoldable pub runningOf : CtapHid → (wink time until : ℕ) → Running
-runningOf s wink time until = refusing Refused ((not (isSound s wink), 3) ∷ []) (runningAt (s .last) time until)
+runningOf s wink time until = runningWhere (isSound s wink) (s .last) time until
 
 abbrev pub lockedOf : CtapHid → (time : ℕ) → Running
 lockedOf s time = runningOf s 0 time (s .lock)

@@ -14,7 +14,9 @@ mod transport;
 
 pub use answers::Answer;
 pub use answers::payload;
+pub use questions::running_soundly;
 pub use receive::MessageAssembler;
+pub use soundness::is_sound;
 
 // Every state is numbers, without padding, so that one type serves Rattle, Rust and C. A timer is its deadline, 0 when unset.
 // The transport. Channels 1 to allocated are allocated; locked holds the lock until the time lock; u2f is 0 for a key without; vendor has a bit for each of the

@@ -40,7 +40,7 @@ impl MainHid {
     }
 }
 
-// Whether what ends at a time runs at another.
+// Whether what ends at a time runs at another: 3, then 4.
 fn running(hid: CtapHid, wink: u64, time: u64, until: u64) -> Running
     ensures { λ r. ⌜ r ≡ runningOf hid wink time until ⌝ }
 {
@@ -50,7 +50,8 @@ fn running(hid: CtapHid, wink: u64, time: u64, until: u64) -> Running
     Running::Refused(Refusal::UNSOUND)
 }
 
-fn running_soundly(last: u64, time: u64, until: u64) -> Running
+// The same of a sound state. Refusal 4.
+pub fn running_soundly(last: u64, time: u64, until: u64) -> Running
     ensures { λ r. ⌜ r ≡ runningAt last time until ⌝ }
 {
     if time > Limits::LAST_TIME_MS {

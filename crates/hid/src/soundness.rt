@@ -10,7 +10,7 @@ ghost use Rattle.hid.specs.Soundness.{isSound, isTimely, isHeld, transac
 
 const LONGEST_LOCK_MS: u64 = 10000;
 
-pub(crate) fn is_sound(hid: CtapHid, wink: u64) -> bool
+pub fn is_sound(hid: CtapHid, wink: u64) -> bool
     ensures { λ r. ⌜ r ≡ isSound hid wink ⌝ }
 {
     if hid.max > 7609 {

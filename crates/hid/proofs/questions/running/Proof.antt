@@ -1,4 +1,5 @@
 -- `running` meets its contract. Assumes nothing.
+use Rattle.hid.specs.Questions.{runningOf}
 use Rattle.hid.proofs.Refusing.{running-sound, running-unsound}
 use borrow.Author.Needs.{needs}
 use Rattle.hid.proofs.questions.running.Statement.{statement}
@@ -11,9 +12,11 @@ running-soundly-requires : tie.Need-running-soundly-requires
 running-soundly-requires c κs = search needs
 
 returns : tie.Need-returns
+unfolding runningOf
 returns c = search (running-sound, running-unsound)
 
 returns-2 : tie.Need-returns-2
+unfolding runningOf
 returns-2 c = search (running-sound, running-unsound)
 
 pub running-spec : {M : Type 1} → statement M
