@@ -59,7 +59,7 @@ module _ (s : CtapHid) (time : ℕ) (left : List ℕ) (b : Buffers) (lends : Len
   same-meaning = ap (withReceiver (transportOf s left)) same-receiver
 
 -- and tells the same number of packets still due, whatever was forgotten
-due-tells : (s : CtapHid) (wink time : ℕ) (m : List ℕ) (d : Transport) → Sound s wink → Means time s m d → s .«still_due» ≡ stillDue (d .receiver)
+pub due-tells : (s : CtapHid) (wink time : ℕ) (m : List ℕ) (d : Transport) → Sound s wink → Means time s m d → s .«still_due» ≡ stillDue (d .receiver)
 due-tells s wink time m d sound means =
     sound .due ∙ (sym (due-any (s .assembler) m)
     ∙ (sym (forgetting-due time (receiverOf (s .assembler) m)) ∙ (ap (λ (x : Transport). stillDue (x .receiver)) means ∙ forgetting-due time (d .receiver))))
@@ -81,7 +81,7 @@ module _ (s : CtapHid) (left : List ℕ) (d : Transport) (e : Event) (b : Buffer
   abbrev x : Stepping
   x = onEvent s e b
 
-  alike : Alike (e .time) (step (transportOf s (b .message)) e) (step d e)
+  pub alike : Alike (e .time) (step (transportOf s (b .message)) e) (step d e)
   alike = hears-alike (e .time) (e .disabled) (transportOf s (b .message)) d (read (e .packet)) (lent-means s e left b d (f .means) comes lends)
 
   pub answers-alike : saidBy x ≡ answered (step d e .answer)

@@ -5,6 +5,10 @@ pub mod Following
 pub mod Runs
 pub mod Shared
 pub mod Callers
+pub mod KeySteps
+pub mod KeyFollowing
+pub mod KeyShared
+pub mod KeyCallers
 pub mod Instances
 pub mod HostWire
 pub mod HostRefines

@@ -96,7 +96,7 @@ Carried P (request c k payload) = P payload
 abbrev pub Lies : (max : ℕ) → (m payload : List ℕ) → Type 0
 Lies max m payload = (take (length payload) m ≡ payload) × (length payload ≤ max)
 
-said-back : (max : ℕ) (a : standard.Answer) (m r : List ℕ) → Carried (Lies max m) a → said (answerOf a) m (replied a r) ≡ answered a
+pub said-back : (max : ℕ) (a : standard.Answer) (m r : List ℕ) → Carried (Lies max m) a → said (answerOf a) m (replied a r) ≡ answered a
 said-back max nothing m r h = refl
 said-back max (reply c k payload) m r h = by-kind (isEcho k) h
   where
@@ -106,7 +106,7 @@ said-back max (reply c k payload) m r h = by-kind (isEcho k) h
     by-kind false f = rw (meant-case k) (ap (λ (y : List ℕ). answered (reply c k y)) (at-front payload r))
 said-back max (request c k payload) m r h = rw (meant-case k) (ap (λ (y : List ℕ). answered (request c k y)) (h .0))
 
-no-echo : {A : Type 0} → false ≡ true → A
+pub no-echo : {A : Type 0} → false ≡ true → A
 no-echo e = absurd (true≢false (sym e))
 
 -- what holds of a whole message holds of what is carried
@@ -270,7 +270,7 @@ module _ (s : CtapHid) (e : Event) (b : Buffers) (sound : Sound s 0) (comes : Co
   abbrev Heard : Stepping
   Heard = heardOf s (e .time) (e .disabled) p m (b .short)
 
-  step-is : onEvent s e b ≡ Heard
+  pub step-is : onEvent s e b ≡ Heard
   unfolding admittedOf
   step-is = none-refuse (λ n. stepping (record { hid = s; answer = Refused n }) m (b .short)) (refusals s 0 (e .time) (length (e .packet)) (length m) (length (b .short))) Heard (none-refuses s 0 e b sound comes roomy)
 
@@ -281,7 +281,7 @@ module _ (s : CtapHid) (e : Event) (b : Buffers) (sound : Sound s 0) (comes : Co
     answer = said-back (s .max) (step (transportOf s m) e .answer) (messageAfter s (e .time) (e .disabled) p m) (b .short) (heard-right s 0 (e .time) (e .disabled) p m sound (roomy .message) (comes .later) (formed s 0 e b sound comes roomy) .1);
   }
 
-  stays-sound : Sound (Heard .stepped .hid) 0
+  pub stays-sound : Sound (Heard .stepped .hid) 0
   unfolding heardOf servedOf
   stays-sound = state-sound s 0 (e .time) (e .disabled) p m sound (roomy .message) (comes .later) (formed s 0 e b sound comes roomy) 0 (comes .early) (omega arith)
 
@@ -305,7 +305,7 @@ fresh-means set m = ap (λ (b : Bool). fresh (record { maximum = set .maximum; u
     flag true = refl
     flag false = refl
 
-permitted-all : (set : Settings) → Permitted set → allVendor (set .vendor) ≡ true
+pub permitted-all : (set : Settings) → Permitted set → allVendor (set .vendor) ≡ true
 permitted-all set p = all-vendor-of (set .vendor) (p .vendor)
 
 pub same-members : (set : Settings) → Permitted set → Lists (vendorOf (bitsOf (set .vendor))) set
@@ -386,7 +386,7 @@ module _ (o : MainHid) (e : Event) (b : Buffers) (sound : Sound (o .hid) (o .win
         answer = said-back (o .hid .max) (led .answer) kept (b .short) (carried-above (Lies (o .hid .max) kept) (e .time) (o .wink) (below .state) (below .answer) (refl, omega arith) right);
       }
 
-  main-stays-sound : Sound (MainHeard .stepped .hid .hid) (MainHeard .stepped .hid .wink)
+  pub main-stays-sound : Sound (MainHeard .stepped .hid .hid) (MainHeard .stepped .hid .wink)
   unfolding mainHeardOf
   main-stays-sound =
       subst (λ (x : Transport). Sound (stateOf (o .hid) (e .time) x) (led .state .wink)) (sym same-below)
@@ -413,7 +413,7 @@ buffered-long idle silent m = omega arith
 buffered-long idle (fault x) m = omega arith
 buffered-long idle (whole c cmd payload) m = front-long payload m
 
-kept-long : (s : CtapHid) (time : ℕ) (disabled : Bool) (p : Packet) (m : List ℕ) → length m ≤ length (messageAfter s time disabled p m)
+pub kept-long : (s : CtapHid) (time : ℕ) (disabled : Bool) (p : Packet) (m : List ℕ) → length m ≤ length (messageAfter s time disabled p m)
 unfolding messageAfter
 kept-long s time disabled p m =
     pick-both Long (isValid (s .allocated) p) _ _ (pick-both Long (isShut (transportOf s m .lock) time disabled (channelOf p)) _ _ (omega arith) (buffered-long (t .receiver) (t .reception) m)) (omega arith)

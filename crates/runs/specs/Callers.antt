@@ -11,7 +11,7 @@ use Rattle.runs.specs.Steps.{Buffers, buffers}
 use Rattle.runs.specs.Share.{Held, Caller, code}
 
 -- the first pair of buffers goes with the maximum, and is lent back untouched ever after
-abbrev pub unlessFirst : (past : List Event) → (first left : Buffers) → Buffers
+abbrev pub unlessFirst : {A B : Type 0} → (past : List A) → (first left : B) → B
 unlessFirst [] first left = first
 unlessFirst (e ∷ past) first left = left
 

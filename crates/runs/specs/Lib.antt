@@ -3,6 +3,8 @@ pub mod Lending
 pub mod Echoes
 pub mod Share
 pub mod Callers
+pub mod KeySteps
+pub mod KeyShare
 pub mod HostSteps
 pub mod HostRuns
 pub mod HostCallers
