@@ -5,27 +5,28 @@
  * Link the libsnjofrask.a of your processor. `rt staticlib snjofrask` writes the one for x86-64 (System V), and
  * `firmware/build TARGET` those for Cortex-M4, Cortex-M33, RISC-V of 32 bits and AArch64: firmware/README.md. Each allocates
  * nothing and keeps nothing between calls. Those for x86-64 and AArch64 call nothing outside, the others memcpy and its like.
+ * A key with two interfaces links libsnjofrask_key.a besides (at the end of this file), of which all this holds too.
  * examples/firmware is a main loop over it, docs/RULES.md has all rules.
  *
  * What is proved holds for callers that keep to this:
  *  - Every pointer is valid for the count after it, or for its struct, is aligned as its type, and is not null, also
  *    where the count is 0.
  *  - What a call may write (a pointer that is not const) overlaps nothing else that is lent to the same call.
- *  - A call takes up to SNJOFRASK_STACK_SIZE bytes of stack, and what memcpy takes. On x86-64 up to 128 of these may lie
- *    below the stack pointer (the red zone): an interrupt handler on the same stack has to skip them, or run on a stack of
- *    its own. Elsewhere nothing lies there.
+ *  - A call takes up to SNJOFRASK_STACK_SIZE bytes of stack, one of libsnjofrask_key.a up to SNJOFRASK_KEY_STACK_SIZE, and
+ *    what memcpy takes. On x86-64 up to 128 of these may lie below the stack pointer (the red zone): an interrupt handler on
+ *    the same stack has to skip them, or run on a stack of its own. Elsewhere nothing lies there.
  *  - Vector registers are used on x86-64 (xmm0 to xmm15) and on AArch64, and left with other contents, as the calling
  *    convention allows. An interrupt handler or a kernel that calls in has to save them as it saves the others. On Cortex-M
  *    no floating-point register is touched.
  *
- * A state (a transport or a device) comes from its _new entry and is altered by calls alone. Whatever else stands there
- * does no harm: a step refuses it with 2, where its max is more than the message buffer has, or with 3, where it makes no
- * sense; contents that happen to make sense are taken for a state. All zeros make sense: a device with a maximum of 0,
- * without U2F or vendor commands, which tells every INIT that it is too long. A collection that is all zeros is a fresh one.
- * A wait makes sense whatever stands there.
+ * A state (a transport, a device or a key) comes from its _new entry and is altered by calls alone. Whatever else stands
+ * there does no harm: a step refuses it with 2, where its max is more than the message buffer has, or with 3, where it makes
+ * no sense; contents that happen to make sense are taken for a state. All zeros make sense: a device, and a key on both
+ * interfaces, with a maximum of 0, without U2F or vendor commands, which tells every INIT that it is too long. A collection
+ * that is all zeros is a fresh one. A wait makes sense whatever stands there.
  *
  * Threads: there are no globals. Calls over different structs and buffers may run at once; a struct and its buffers
- * serve one call at a time.
+ * serve one call at a time, a key with its two interfaces too.
  *
  * Time is in whole milliseconds from any beginning, at most SNJOFRASK_LAST_TIME_MS, and never goes back for a state or a wait.
  *
@@ -45,22 +46,27 @@
 /*
  * The processors that there is an archive for. SNJOFRASK_ENTRY: the archive's calling convention, whatever the caller is
  * compiled for (-mabi=ms, -mfloat-abi=hard). SNJOFRASK_STACK_SIZE: bytes of stack that a call takes at most, with the
- * return address and the red zone where there are such, and without what memcpy and its like take.
+ * return address and the red zone where there are such, and without what memcpy and its like take. SNJOFRASK_KEY_STACK_SIZE:
+ * the same of libsnjofrask_key.a.
  */
 #if defined(__x86_64__) && !defined(__ILP32__) && !defined(_WIN32) && !defined(__CYGWIN__)
 #define SNJOFRASK_ENTRY __attribute__((sysv_abi))
 #define SNJOFRASK_STACK_SIZE 496
+#define SNJOFRASK_KEY_STACK_SIZE 528
 #elif defined(__ARM_EABI__) && defined(__thumb2__) && !defined(__ARM_BIG_ENDIAN) && __ARM_ARCH_PROFILE == 'M' && \
     (__ARM_ARCH >= 8 || defined(__ARM_FEATURE_DSP))
 #define SNJOFRASK_ENTRY __attribute__((pcs("aapcs")))
 #define SNJOFRASK_STACK_SIZE 584
+#define SNJOFRASK_KEY_STACK_SIZE 600
 #elif defined(__riscv) && __riscv_xlen == 32 && !defined(__riscv_32e) && defined(__riscv_mul) && defined(__riscv_compressed) && \
     defined(__riscv_float_abi_soft)
 #define SNJOFRASK_ENTRY
 #define SNJOFRASK_STACK_SIZE 544
+#define SNJOFRASK_KEY_STACK_SIZE 624
 #elif defined(__aarch64__) && defined(__LP64__) && !defined(__AARCH64EB__) && !defined(__APPLE__)
 #define SNJOFRASK_ENTRY
 #define SNJOFRASK_STACK_SIZE 528
+#define SNJOFRASK_KEY_STACK_SIZE 544
 #else
 #error "there is no libsnjofrask.a for this processor and calling convention: firmware/README.md says for which there is"
 #endif
@@ -79,10 +85,10 @@ extern "C" {
 
 /* ---- numbers */
 
-/* Of the library: header and archive belong together. */
-#define SNJOFRASK_VERSION "0.9.0"
+/* Of the library: header and archives belong together. */
+#define SNJOFRASK_VERSION "0.10.0"
 #define SNJOFRASK_VERSION_MAJOR 0
-#define SNJOFRASK_VERSION_MINOR 9
+#define SNJOFRASK_VERSION_MINOR 10
 #define SNJOFRASK_VERSION_PATCH 0
 
 /* Limits: bytes and milliseconds. */
@@ -278,7 +284,25 @@ typedef struct snjofrask_wait_outcome {
     uint8_t refusal;
 } snjofrask_wait_outcome;
 
-/* the layout that the archive was compiled for: the same on every processor, but for the length of an outcome */
+/* A key's vendor interface. Each field is what it is in a transport; the time of the latest step, U2F and the vendor commands
+   are main's. */
+typedef struct snjofrask_vendor_interface {
+    snjofrask_assembler assembler;
+    uint64_t lock;
+    uint32_t allocated;
+    uint32_t locked;
+    uint32_t max;
+    uint16_t spare;
+    uint16_t still_due;
+} snjofrask_vendor_interface;
+
+/* A key with two interfaces. last, vendor and u2f of main.hid serve both. */
+typedef struct snjofrask_key {
+    snjofrask_device main;
+    snjofrask_vendor_interface vendor;
+} snjofrask_key;
+
+/* the layout that the archives were compiled for: the same on every processor, but for the length of an outcome */
 SNJOFRASK_ASSERT(sizeof(size_t) == sizeof(void *));
 SNJOFRASK_ASSERT(sizeof(size_t) == 8 || sizeof(size_t) == 4);
 
@@ -359,6 +383,21 @@ SNJOFRASK_ASSERT(offsetof(snjofrask_wait_outcome, count) == 24);
 SNJOFRASK_ASSERT(offsetof(snjofrask_wait_outcome, ending) == 25);
 SNJOFRASK_ASSERT(offsetof(snjofrask_wait_outcome, error) == 26);
 SNJOFRASK_ASSERT(offsetof(snjofrask_wait_outcome, refusal) == 27);
+
+SNJOFRASK_ASSERT(sizeof(snjofrask_vendor_interface) == 48);
+SNJOFRASK_ASSERT(SNJOFRASK_ALIGNMENT(snjofrask_vendor_interface) == 8);
+SNJOFRASK_ASSERT(offsetof(snjofrask_vendor_interface, assembler) == 0);
+SNJOFRASK_ASSERT(offsetof(snjofrask_vendor_interface, lock) == 24);
+SNJOFRASK_ASSERT(offsetof(snjofrask_vendor_interface, allocated) == 32);
+SNJOFRASK_ASSERT(offsetof(snjofrask_vendor_interface, locked) == 36);
+SNJOFRASK_ASSERT(offsetof(snjofrask_vendor_interface, max) == 40);
+SNJOFRASK_ASSERT(offsetof(snjofrask_vendor_interface, spare) == 44);
+SNJOFRASK_ASSERT(offsetof(snjofrask_vendor_interface, still_due) == 46);
+
+SNJOFRASK_ASSERT(sizeof(snjofrask_key) == 120);
+SNJOFRASK_ASSERT(SNJOFRASK_ALIGNMENT(snjofrask_key) == 8);
+SNJOFRASK_ASSERT(offsetof(snjofrask_key, main) == 0);
+SNJOFRASK_ASSERT(offsetof(snjofrask_key, vendor) == 72);
 
 /* ---- a device: everything but what MSG, CBOR and vendor commands mean */
 
@@ -518,6 +557,65 @@ snjofrask_outcome snjofrask_host_read(snjofrask_collection *collection, uint32_t
  */
 SNJOFRASK_ENTRY
 snjofrask_init_outcome snjofrask_init_reply(uint8_t cmd, const uint8_t *payload, size_t payload_len);
+
+/* ---- a key with two interfaces, main and vendor: the entries of libsnjofrask_key.a */
+
+/*
+ * A key with one interface needs none of this, and links libsnjofrask.a alone. One with two links both archives, for packets
+ * and waits are in the other one:
+ *     YOURS.o libsnjofrask_key.a libsnjofrask.a
+ * Neither calls the other, so either may come first. What has memcpy and its like comes behind both.
+ *
+ * Each interface has channels, a lock, a message on its way in and a maximum of its own. While a lock runs on the one, every
+ * packet on a valid channel of the other is told CHANNEL_BUSY, so two locks never run at once: the key works that out, and no
+ * flag is passed. Main is a device, and what is told there of vendor's lock ends a wink as any reply does. Vendor is a device
+ * without WINK: a whole one is told INVALID_CMD, though INIT reports the same capabilities on both, and nothing there ends a
+ * wink.
+ */
+
+/*
+ * A fresh key that takes messages of up to main bytes on main, and of up to vendor bytes on vendor. U2F and commands, the
+ * list of vendor commands, are for both, and all else is as in snjofrask_device_new.
+ * Returns 0, refusal 5, where either maximum is too high, or 13, in this order; a refusal leaves key as it came.
+ */
+SNJOFRASK_ENTRY
+uint8_t snjofrask_key_new(snjofrask_key *key, size_t main, size_t vendor, uint8_t u2f, const uint8_t *commands,
+                          size_t commands_len);
+
+/*
+ * A packet that came on main at a time: as snjofrask_device_step, with the flag that the key works out, but for this.
+ *
+ * Each interface has a message buffer of its own, since both may have a message on its way in: what is said there of message
+ * holds for each, by its own assembler. One reply buffer may serve both; what stands in it is sent before the next step.
+ *
+ * REFUSED is by 1, 2, 3 or 4, in this order. 2 is for the buffers of this call, by this interface's max. 3 is for the whole
+ * key: main or vendor makes no sense, or both locks run at the time of the latest step. 4 is by the time of the latest step,
+ * whichever interface that was on.
+ *
+ * While the caller works on a MESSAGE, it gives no packet of either interface to a step: there is no flag to set, and the key
+ * would take the next request. Where the work is a wait for a touch, all go to snjofrask_wait_step; the caller numbers the two
+ * interfaces as it likes. In any other work it sends KEEPALIVE as for a device, and looks at each packet: CANCEL on the
+ * request's interface and channel ends the work, and every other one the caller itself tells CHANNEL_BUSY, on the interface
+ * and channel that it came on:
+ *     snjofrask_write_packet(cid, SNJOFRASK_CMD_ERROR, &busy, 1, 0, packet, 64);
+ */
+SNJOFRASK_ENTRY
+snjofrask_outcome snjofrask_key_main_step(snjofrask_key *key, uint64_t time, const uint8_t *packet, size_t packet_len,
+                                          uint8_t *message, size_t message_len, uint8_t *reply, size_t reply_len);
+
+/* The same for a packet that came on vendor. */
+SNJOFRASK_ENTRY
+snjofrask_outcome snjofrask_key_vendor_step(snjofrask_key *key, uint64_t time, const uint8_t *packet, size_t packet_len,
+                                            uint8_t *message, size_t message_len, uint8_t *reply, size_t reply_len);
+
+/* Whether main's lock, vendor's lock or the wink runs at a time, which alters nothing: 0 for no, 1 for yes, or refusal 3 or 4,
+   which are those of a step. */
+SNJOFRASK_ENTRY
+uint8_t snjofrask_key_main_is_locked(const snjofrask_key *key, uint64_t time);
+SNJOFRASK_ENTRY
+uint8_t snjofrask_key_vendor_is_locked(const snjofrask_key *key, uint64_t time);
+SNJOFRASK_ENTRY
+uint8_t snjofrask_key_is_winking(const snjofrask_key *key, uint64_t time);
 
 #ifdef __cplusplus
 }

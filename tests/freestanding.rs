@@ -1,11 +1,13 @@
-//! The bindings as firmware has them: no library but core, no allocator, no C library. A broadcast INIT goes through a device; the
-//! program ends with 0 if the reply is right. tests/bindings builds and runs it.
+//! The bindings as firmware has them: no library but core, no allocator, no C library. A broadcast INIT goes through a device and, with the
+//! feature for it, through each interface of a key; the program ends with 0 if the replies are right. tests/bindings builds and runs it.
 #![no_std]
 #![no_main]
 
 use core::arch::{asm, global_asm};
 use core::panic::PanicInfo;
-use snjofrask::{CHANNEL_BROADCAST, CtapHid, CtapHidCommand, MainHid, Message, Processed};
+use snjofrask::{CHANNEL_BROADCAST, CtapHid, CtapHidCommand, MainHid, Message, Processed, Refusal};
+#[cfg(feature = "vendor_hid")]
+use snjofrask::{Key, Transport};
 
 #[cfg(target_arch = "aarch64")]
 global_asm!(".globl _start", "_start:", "b {main}", main = sym main);
@@ -21,29 +23,53 @@ global_asm!(
 );
 
 extern "C" fn main() -> ! {
-    exit(if is_welcomed() { 0 } else { 1 })
+    let is_welcomed = device_welcomes() && key_welcomes();
+    exit(if is_welcomed { 0 } else { 1 })
 }
 
-fn is_welcomed() -> bool {
+const INIT: Message = Message {
+    cid: CHANNEL_BROADCAST,
+    cmd: CtapHidCommand::Init,
+    payload: &[1, 2, 3, 4, 5, 6, 7, 8],
+};
+
+const WELCOME: Message = Message {
+    payload: &[1, 2, 3, 4, 5, 6, 7, 8, 0, 0, 0, 1, 2, 1, 0, 0, 5],
+    ..INIT
+};
+
+fn is_welcome(processed: Result<Processed, Refusal>) -> bool {
+    match processed {
+        Ok(Processed::Packets(packets)) => packets.eq(CtapHid::split_message(WELCOME)),
+        _ => false,
+    }
+}
+
+fn device_welcomes() -> bool {
     let mut buffer = [0; 1024];
     let Ok(mut device) = MainHid::new(&mut buffer, true, &[]) else {
         return false;
     };
-    let init = Message {
-        cid: CHANNEL_BROADCAST,
-        cmd: CtapHidCommand::Init,
-        payload: &[1, 2, 3, 4, 5, 6, 7, 8],
+    CtapHid::split_message(INIT)
+        .all(|packet| is_welcome(device.process_hid_packet(0, &packet, false)))
+}
+
+#[cfg(not(feature = "vendor_hid"))]
+fn key_welcomes() -> bool {
+    true
+}
+
+#[cfg(feature = "vendor_hid")]
+fn key_welcomes() -> bool {
+    let (mut main, mut vendor) = ([0; 1024], [0; 1024]);
+    let Ok(mut key) = Key::new(&mut main, &mut vendor, true, &[]) else {
+        return false;
     };
-    let welcome = Message {
-        payload: &[1, 2, 3, 4, 5, 6, 7, 8, 0, 0, 0, 1, 2, 1, 0, 0, 5],
-        ..init
+    let mut is_welcomed_on = |transport| {
+        CtapHid::split_message(INIT)
+            .all(|packet| is_welcome(key.process_hid_packet(0, &packet, transport)))
     };
-    CtapHid::split_message(init).all(
-        |packet| match device.process_hid_packet(0, &packet, false) {
-            Ok(Processed::Packets(packets)) => packets.eq(CtapHid::split_message(welcome)),
-            _ => false,
-        },
-    )
+    is_welcomed_on(Transport::MainHid) && is_welcomed_on(Transport::VendorHid)
 }
 
 #[cfg(target_arch = "aarch64")]
