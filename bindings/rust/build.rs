@@ -1,13 +1,13 @@
-//! Tells the linker where the archive is: in the folder that SNJOFRASK_LIB names, or where `rt staticlib snjofrask`, for
-//! x86-64, or `firmware/build`, for another processor, writes it.
+//! Tells the linker where the archives are: in the folder that SNJOFRASK_LIB names, or where `rt staticlib`, for x86-64, or
+//! `firmware/build`, for another processor, writes them.
 use std::env;
 use std::path::PathBuf;
 use std::process::exit;
 
-/// Where the archive for a processor is written below the repository's target, and by what.
-fn written(processor: &str) -> Option<(String, String)> {
+/// Where an archive for a processor is written below the repository's target, and by what.
+fn written(library: &str, processor: &str) -> Option<(String, String)> {
     let name = match processor {
-        "x86_64" => return Some(("staticlib".into(), "rt staticlib snjofrask".into())),
+        "x86_64" => return Some(("staticlib".into(), format!("rt staticlib {library}"))),
         "thumbv7em" => "thumbv7em-none-eabi",
         "thumbv8m.main" => "thumbv8m.main-none-eabi",
         "riscv32imac" => "riscv32imac",
@@ -17,10 +17,10 @@ fn written(processor: &str) -> Option<(String, String)> {
     Some((format!("firmware/{name}"), format!("firmware/build {name}")))
 }
 
-fn main() {
+fn find(library: &str) {
     let target = env::var("TARGET").unwrap();
-    let Some((written, command)) = written(target.split('-').next().unwrap()) else {
-        eprintln!("there is no libsnjofrask.a for {target}");
+    let Some((written, command)) = written(library, target.split('-').next().unwrap()) else {
+        eprintln!("there is no lib{library}.a for {target}");
         exit(1);
     };
     let folder = match env::var_os("SNJOFRASK_LIB") {
@@ -29,7 +29,7 @@ fn main() {
             .join("../../target")
             .join(written),
     };
-    let archive = folder.join("libsnjofrask.a");
+    let archive = folder.join(format!("lib{library}.a"));
     if !archive.is_file() {
         eprintln!(
             "no {}: run `{command}`, or name its folder in SNJOFRASK_LIB",
@@ -39,5 +39,12 @@ fn main() {
     }
     println!("cargo::rustc-link-search=native={}", folder.display());
     println!("cargo::rerun-if-changed={}", archive.display());
+}
+
+fn main() {
+    find("snjofrask");
+    if env::var_os("CARGO_FEATURE_VENDOR_HID").is_some() {
+        find("snjofrask_key");
+    }
     println!("cargo::rerun-if-env-changed=SNJOFRASK_LIB");
 }

@@ -11,6 +11,7 @@
 //!   commands that are listed at set-up; OpenSK has none.
 //! - A command that the device doesn't know is told so at its first packet, and not when the message is whole.
 //! - A wait for a touch, [`check_user_presence`], takes its limit as an argument, and asks the key for the rest: [`Env`].
+//! - With the feature `vendor_hid` there is `Key`, with two interfaces, as in OpenSK's `Ctap` with its feature of this name.
 //!
 //! A device:
 //!
@@ -45,8 +46,9 @@
 //!
 //! In the repository `rt staticlib snjofrask` writes the archive for x86-64, and `firmware/build TARGET` those for
 //! Cortex-M4, Cortex-M33, RISC-V of 32 bits and AArch64; the environment variable `SNJOFRASK_LIB` names its folder if it is
-//! elsewhere. On x86-64 it uses the 128 bytes below the stack pointer, so an interrupt handler on the same stack has to
-//! skip them.
+//! elsewhere. The feature `vendor_hid` needs a second archive in the same folder: `rt staticlib snjofrask_key` writes it for
+//! x86-64, and `firmware/build` writes both. On x86-64 they use the 128 bytes below the stack pointer, so an interrupt handler
+//! on the same stack has to skip them.
 #![no_std]
 #![deny(missing_docs, unsafe_code)]
 
@@ -63,16 +65,23 @@ compile_error!("every archive is for little endian");
 
 mod hid;
 mod host;
+#[cfg(feature = "vendor_hid")]
+mod key;
 mod main_hid;
 mod message;
 // all of the archive, of which this crate uses a part
 #[allow(unsafe_code, dead_code)]
 mod raw;
+#[cfg(feature = "vendor_hid")]
+#[allow(unsafe_code)]
+mod raw_key;
 mod send;
 mod touch;
 
 pub use hid::{CtapHid, Parsed};
 pub use host::{Collection, InitReply, Progress, init_reply};
+#[cfg(feature = "vendor_hid")]
+pub use key::{Key, Transport};
 pub use main_hid::{MainHid, Processed};
 pub use message::{
     CHANNEL_BROADCAST, ChannelID, CtapHidCommand, CtapHidError, HidPacket, KeepaliveStatus,

@@ -1,7 +1,7 @@
 //! The device: the transport, and the wink.
 use crate::hid::{CtapHid, Parsed, SHORT_REPLY_SIZE, parsed, running};
 use crate::message::{HidPacket, Message, Refusal};
-use crate::raw;
+use crate::raw::{self, Outcome};
 use crate::send::HidPacketIterator;
 
 /// What a packet brings about.
@@ -95,11 +95,7 @@ impl<'b> MainHid<'b> {
             self.message,
             &mut self.reply,
         );
-        Ok(match parsed(outcome, self.message, &self.reply)? {
-            Parsed::Nothing => Processed::Packets(HidPacketIterator::none()),
-            Parsed::Message(message) => Processed::Request(message),
-            Parsed::Reply(message) => Processed::Packets(CtapHid::split_message(message)),
-        })
+        processed(outcome, self.message, &self.reply)
     }
 
     /// Whether a channel holds a lock at a time. The question alters nothing.
@@ -150,4 +146,17 @@ impl<'b> MainHid<'b> {
     pub fn still_due(&self) -> u16 {
         self.state.hid.still_due
     }
+}
+
+// What a step of a device brings about.
+pub(crate) fn processed<'a>(
+    outcome: Outcome,
+    message: &'a [u8],
+    reply: &'a [u8],
+) -> Result<Processed<'a>, Refusal> {
+    Ok(match parsed(outcome, message, reply)? {
+        Parsed::Nothing => Processed::Packets(HidPacketIterator::none()),
+        Parsed::Message(message) => Processed::Request(message),
+        Parsed::Reply(message) => Processed::Packets(CtapHid::split_message(message)),
+    })
 }

@@ -1,64 +1,12 @@
 //! A host and a device, both of this crate, over packets: every length of message that stands at a boundary.
+mod common;
+
+use common::{LENGTHS, ask, bytes, error, init, packet};
 use snjofrask::{
     CHANNEL_BROADCAST, ChannelID, Collection, CtapHid, CtapHidCommand, CtapHidError, HidPacket,
     HidPacketIterator, LARGEST_PAYLOAD, LAST_TIME_MS, MainHid, Message, Parsed, Processed,
     Progress, Refusal, init_reply,
 };
-
-const LENGTHS: [usize; 12] = [0, 1, 56, 57, 58, 115, 116, 117, 175, 1024, 7608, 7609];
-
-/// Sends a message, answers requests by the reverse of their payload, and reads the reply.
-fn ask(
-    device: &mut MainHid,
-    time_ms: u64,
-    message: Message,
-) -> Result<Option<(u8, Vec<u8>)>, Refusal> {
-    let mut buffer = [0; LARGEST_PAYLOAD];
-    let mut collection = Collection::new(&mut buffer);
-    let mut reply = None;
-    let mut hear = |packets: HidPacketIterator| {
-        for packet in packets {
-            match collection.take_packet(message.cid, &packet).unwrap() {
-                Progress::Waiting => {}
-                Progress::Reply { cmd, payload } => {
-                    assert_eq!(reply.replace((cmd, payload.to_vec())), None)
-                }
-                other => panic!("{other:?}"),
-            }
-        }
-    };
-    for packet in HidPacketIterator::new(message).unwrap() {
-        match device.process_hid_packet(time_ms, &packet, false)? {
-            Processed::Packets(packets) => hear(packets),
-            Processed::Request(request) => {
-                let payload: Vec<u8> = request.payload.iter().rev().copied().collect();
-                hear(CtapHid::split_message(Message {
-                    payload: &payload,
-                    ..request
-                }));
-            }
-        }
-    }
-    Ok(reply)
-}
-
-/// The channel and the capabilities that a device replies to INIT.
-fn init(device: &mut MainHid, time_ms: u64, nonce: [u8; 8]) -> (ChannelID, u8) {
-    let message = Message {
-        cid: CHANNEL_BROADCAST,
-        cmd: CtapHidCommand::Init,
-        payload: &nonce,
-    };
-    let (cmd, payload) = ask(device, time_ms, message).unwrap().unwrap();
-    let reply = init_reply(cmd, &payload).unwrap();
-    assert_eq!((reply.nonce, reply.rest), (nonce, &[][..]));
-    (reply.cid, reply.capabilities)
-}
-
-fn error(cid: ChannelID, error: CtapHidError) -> Option<(u8, Vec<u8>)> {
-    let message = CtapHid::error_message(cid, error);
-    Some((message.cmd.number(), message.payload.to_vec()))
-}
 
 /// The numbers as docs/RULES.md has them.
 const COMMANDS: [(u8, CtapHidCommand); 9] = [
@@ -95,7 +43,7 @@ fn every_message_comes_back() {
     assert_eq!(init(&mut device, 0, [1; 8]).0, [0, 0, 0, 1]);
     let (cid, _) = init(&mut device, 0, [2; 8]);
     assert_eq!(cid, [0, 0, 0, 2]);
-    let bytes: Vec<u8> = (0..LARGEST_PAYLOAD).map(|i| (i % 251) as u8).collect();
+    let bytes = bytes(LARGEST_PAYLOAD);
     for len in LENGTHS {
         let payload = &bytes[..len];
         let reversed: Vec<u8> = payload.iter().rev().copied().collect();
@@ -184,7 +132,7 @@ fn errors_are_told() {
 
 #[test]
 fn longer_replies_to_init() {
-    let bytes: Vec<u8> = (0..=LARGEST_PAYLOAD).map(|i| (i % 251) as u8).collect();
+    let bytes = bytes(LARGEST_PAYLOAD + 1);
     let cmd = CtapHidCommand::Init;
     for len in [0, 16, LARGEST_PAYLOAD + 1] {
         assert_eq!(
@@ -228,7 +176,7 @@ fn vendor_commands_come_back() {
     let mut buffer = [0; LARGEST_PAYLOAD];
     let mut device = MainHid::new(&mut buffer, true, &known).unwrap();
     let (cid, _) = init(&mut device, 0, [0; 8]);
-    let bytes: Vec<u8> = (0..LARGEST_PAYLOAD).map(|i| (i % 251) as u8).collect();
+    let bytes = bytes(LARGEST_PAYLOAD);
     for number in vendor() {
         let cmd = CtapHidCommand::from(number);
         assert!(matches!(cmd, CtapHidCommand::Vendor(vendor) if vendor.number() == number));
@@ -393,13 +341,6 @@ const BUSY: Option<u8> = Some(CtapHidError::ChannelBusy as u8);
 const NO_CHANNEL: Option<u8> = Some(CtapHidError::InvalidChannel as u8);
 const OUT_OF_ORDER: Option<u8> = Some(CtapHidError::InvalidSeq as u8);
 const TOO_LATE: Option<u8> = Some(CtapHidError::MsgTimeout as u8);
-
-/// One packet of a message of zeros.
-fn packet(cid: ChannelID, cmd: CtapHidCommand, len: usize, index: usize) -> HidPacket {
-    let payload = &[0; LARGEST_PAYLOAD][..len];
-    let mut packets = HidPacketIterator::new(Message { cid, cmd, payload }).unwrap();
-    packets.nth(index).unwrap()
-}
 
 fn ping(cid: ChannelID, len: usize, index: usize) -> HidPacket {
     packet(cid, CtapHidCommand::Ping, len, index)

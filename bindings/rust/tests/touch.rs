@@ -1,8 +1,13 @@
 //! A key that waits for a touch, by a script: what its sensor says, which packets come, what can't be sent.
+// of which packets are all that is needed here
+#[allow(dead_code)]
+mod common;
+
+use common::packet;
 use snjofrask::{
     CHANNEL_BROADCAST, Channel, ChannelID, CtapHid, CtapHidCommand, Ending, Env, HidPacket,
-    HidPacketIterator, LAST_TIME_MS, MainHid, Message, Processed, RecvStatus, Refusal,
-    UserPresence, UserPresenceError, Wait, check_user_presence,
+    LAST_TIME_MS, MainHid, Message, Processed, RecvStatus, Refusal, UserPresence,
+    UserPresenceError, Wait, check_user_presence,
 };
 use std::collections::VecDeque;
 
@@ -17,13 +22,6 @@ const OWN: Channel = Channel {
     interface: MAIN,
     cid: ONE,
 };
-
-/// One packet of a message of zeros.
-fn packet(cid: ChannelID, cmd: CtapHidCommand, len: usize, index: usize) -> HidPacket {
-    let payload = &[0; 2000][..len];
-    let mut packets = HidPacketIterator::new(Message { cid, cmd, payload }).unwrap();
-    packets.nth(index).unwrap()
-}
 
 fn cancel(cid: ChannelID) -> HidPacket {
     packet(cid, CtapHidCommand::Cancel, 0, 0)

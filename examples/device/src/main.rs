@@ -1,15 +1,21 @@
-//! A CTAPHID device on a pipe. README.md beside this says what it answers, what it can be asked to show and which variables it reads.
+//! A CTAPHID device on a pipe. README.md beside this says what it answers, what it can be asked for and which variables it reads.
 mod answers;
+mod arguments;
+mod device;
+mod ends;
 mod label;
 mod pipe;
 mod progress;
 mod touch;
 
 use answers::{Answer, KEEPALIVE_CANCEL, USER_ACTION_TIMEOUT, answer};
+use arguments::Arguments;
+use device::Device;
+use ends::Ends;
 use label::Label;
-use pipe::{Arrival, Pipe};
+use pipe::Pipes;
 use progress::Progress;
-use snjofrask::{CtapHid, Ending, HidPacketIterator, LARGEST_PAYLOAD, MainHid, Message, Processed};
+use snjofrask::{Channel, CtapHid, Ending, HidPacketIterator, LARGEST_PAYLOAD, Message, Processed};
 use std::env;
 use std::error::Error;
 use std::fs::File;
@@ -18,14 +24,14 @@ use std::process::ExitCode;
 use touch::Touch;
 
 fn main() -> ExitCode {
-    let (progress, touch) = match asked() {
+    let (arguments, touch, interfaces) = match asked() {
         Ok(asked) => asked,
         Err(text) => {
             eprintln!("device: {text}");
             return ExitCode::from(2);
         }
     };
-    match serve(progress, &touch) {
+    match serve(&arguments, &touch, &Pipes::open(interfaces)) {
         Ok(()) => ExitCode::SUCCESS,
         Err(error) => {
             eprintln!("device: {error}");
@@ -34,44 +40,38 @@ fn main() -> ExitCode {
     }
 }
 
-/// What arguments and variables ask for.
-fn asked() -> Result<(Progress, Touch), String> {
-    Ok((
-        Progress::new(is_progress_asked()?),
-        Touch::from_variables()?,
-    ))
+/// What arguments and variables ask for, and the pipes that they need.
+fn asked() -> Result<(Arguments, Touch, Vec<Ends>), String> {
+    let arguments = Arguments::read()?;
+    let touch = Touch::from_variables()?;
+    let interfaces = Ends::of_interfaces(arguments.vendor)?;
+    Ok((arguments, touch, interfaces))
 }
 
-fn is_progress_asked() -> Result<bool, String> {
-    let arguments: Vec<_> = env::args_os().skip(1).collect();
-    match arguments.as_slice() {
-        [] => Ok(false),
-        [argument] if argument == "--progress" => Ok(true),
-        _ => Err("the arguments make no sense; usage: ./device [--progress]".to_string()),
-    }
+fn send(pipes: &Pipes, mut packets: HidPacketIterator, interface: u32) -> io::Result<()> {
+    packets.try_for_each(|packet| pipes.send(&packet, interface))
 }
 
-fn send(mut packets: HidPacketIterator) -> io::Result<()> {
-    packets.try_for_each(|packet| pipe::send(&packet))
-}
-
-fn serve(mut progress: Progress, touch: &Touch) -> Result<(), Box<dyn Error>> {
-    let mut buffer = [0; LARGEST_PAYLOAD];
-    let mut device = MainHid::new(&mut buffer, true, &[label::COMMAND])?;
+fn serve(arguments: &Arguments, touch: &Touch, pipes: &Pipes) -> Result<(), Box<dyn Error>> {
+    let mut buffers = [[0; LARGEST_PAYLOAD]; 2];
+    let mut device = Device::new(&mut buffers, arguments.vendor)?;
     let mut label = Label::new();
-    let pipe = Pipe::open();
-    while let Some(Arrival { time_ms, packet }) = pipe.receive()? {
-        match device.process_hid_packet(time_ms, &packet, false)? {
-            Processed::Packets(packets) => send(packets)?,
+    let mut progress = Progress::new(arguments.progress);
+    while let Some(arrival) = pipes.receive()? {
+        let interface = arrival.interface;
+        let name = device.name(interface);
+        match device.process_hid_packet(arrival.time_ms, &arrival.packet, interface)? {
+            Processed::Packets(packets) => send(pipes, packets, interface)?,
             Processed::Request(request) => {
-                record(&request)?;
+                record(name, &request)?;
                 let Message { cid, cmd, .. } = request;
                 let answer = answer(&request, &mut label);
                 // during a wait it stays: the device is given no packet
                 progress.show(device.still_due());
+                let channel = Channel { interface, cid };
                 let payload = match answer {
                     Answer::AtOnce(payload) => payload,
-                    Answer::AfterTouch(payload) => match touch.wait(cid, &pipe)? {
+                    Answer::AfterTouch(payload) => match touch.wait(channel, pipes)? {
                         Ending::Touched => payload,
                         Ending::Canceled => KEEPALIVE_CANCEL,
                         Ending::TimedOut => USER_ACTION_TIMEOUT,
@@ -79,7 +79,8 @@ fn serve(mut progress: Progress, touch: &Touch) -> Result<(), Box<dyn Error>> {
                         Ending::NotYet | Ending::Failed(_) => return Ok(()),
                     },
                 };
-                send(CtapHid::split_message(Message { cid, cmd, payload }))?;
+                let reply = Message { cid, cmd, payload };
+                send(pipes, CtapHid::split_message(reply), interface)?;
             }
         }
         progress.show(device.still_due());
@@ -87,8 +88,8 @@ fn serve(mut progress: Progress, touch: &Touch) -> Result<(), Box<dyn Error>> {
     Ok(())
 }
 
-/// Adds a line to the file that a variable names, if it does: channel, command and payload in hex.
-fn record(request: &Message) -> io::Result<()> {
+/// Adds a line to the file that a variable names, if it does: the interface's name, and channel, command and payload in hex.
+fn record(interface: &str, request: &Message) -> io::Result<()> {
     let Some(name) = env::var_os("SNJOFRASK_REQUESTS") else {
         return Ok(());
     };
@@ -101,5 +102,5 @@ fn record(request: &Message) -> io::Result<()> {
     let (cid, payload) = (hex(&request.cid), hex(request.payload));
     let cmd = request.cmd.number();
     let mut file = File::options().create(true).append(true).open(name)?;
-    file.write_all(format!("{cid} {cmd:02x} {payload}\n").as_bytes())
+    file.write_all(format!("{interface}{cid} {cmd:02x} {payload}\n").as_bytes())
 }

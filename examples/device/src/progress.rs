@@ -1,10 +1,13 @@
 //! A line on standard error that shows how many packets a message still needs, as a key's light would.
 use std::io::{self, IsTerminal, Write};
 
+/// How many packets are due, and before each number what says of which interface.
+type StillDue = Vec<(&'static str, u16)>;
+
 pub struct Progress {
     is_drawn: bool,
-    /// The number in the line, and 0 where there is no line.
-    shown: u16,
+    /// What is in the line, and nothing where there is no line.
+    shown: StillDue,
 }
 
 impl Progress {
@@ -12,15 +15,15 @@ impl Progress {
     pub fn new(asked: bool) -> Progress {
         Progress {
             is_drawn: asked && io::stderr().is_terminal(),
-            shown: 0,
+            shown: StillDue::new(),
         }
     }
 
-    pub fn show(&mut self, still_due: u16) {
+    pub fn show(&mut self, still_due: StillDue) {
         if self.is_drawn && still_due != self.shown {
-            self.shown = still_due;
             // the packets go on, though the terminal be gone
-            let _ = io::stderr().write_all(drawn(still_due).as_bytes());
+            let _ = io::stderr().write_all(drawn(&still_due).as_bytes());
+            self.shown = still_due;
         }
     }
 }
@@ -28,16 +31,23 @@ impl Progress {
 /// So nothing is left behind, and what is said after begins a line of its own.
 impl Drop for Progress {
     fn drop(&mut self) {
-        self.show(0);
+        self.show(StillDue::new());
     }
 }
 
 /// The line, drawn over the one before.
-fn drawn(still_due: u16) -> String {
-    let text = match still_due {
-        0 => String::new(),
-        1 => "device: 1 packet still due".to_string(),
-        _ => format!("device: {still_due} packets still due"),
+fn drawn(still_due: &StillDue) -> String {
+    let texts: Vec<_> = still_due.iter().map(text).collect();
+    let line = match texts.is_empty() {
+        true => String::new(),
+        false => format!("device: {}", texts.join(", ")),
     };
-    format!("\r{text}\x1b[K")
+    format!("\r{line}\x1b[K")
+}
+
+fn text((name, count): &(&str, u16)) -> String {
+    match count {
+        1 => format!("{name}1 packet still due"),
+        _ => format!("{name}{count} packets still due"),
+    }
 }

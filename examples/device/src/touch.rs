@@ -1,7 +1,7 @@
-//! The wait for a touch: the library's, with this device's button, pipe and clock.
-use crate::pipe::{self, Pipe, Received};
+//! The wait for a touch: the library's, with this device's button, pipes and clock.
+use crate::pipe::{Pipes, Received};
 use snjofrask::{
-    Channel, ChannelID, Ending, Env, HidPacket, RecvStatus, UserPresence, UserPresenceError,
+    Channel, Ending, Env, HidPacket, RecvStatus, UserPresence, UserPresenceError,
     check_user_presence,
 };
 use std::env;
@@ -10,9 +10,6 @@ use std::io;
 use std::time::{Duration, Instant};
 
 const KEEPALIVE_DELAY_MS: u32 = 100;
-
-/// The number of the one interface that there is. A wait asks for it, as a key may have two.
-const INTERFACE: u32 = 0;
 
 /// When a touch comes, if ever, and when waiting for one ends.
 pub struct Touch {
@@ -38,15 +35,11 @@ impl Touch {
     }
 
     /// How the wait ends for a request of this channel. It is left as [`Ending::NotYet`] at the end of input.
-    pub fn wait(&self, cid: ChannelID, pipe: &Pipe) -> Result<Ending, Box<dyn Error>> {
+    pub fn wait(&self, channel: Channel, pipes: &Pipes) -> Result<Ending, Box<dyn Error>> {
         let mut key = Key {
-            pipe,
+            pipes,
             after: self.after,
             touched: None,
-        };
-        let channel = Channel {
-            interface: INTERFACE,
-            cid,
         };
         match check_user_presence(&mut key, channel, self.timeout_ms, KEEPALIVE_DELAY_MS) {
             Ok(ending) => Ok(ending),
@@ -64,7 +57,7 @@ fn milliseconds(name: &str, text: &str) -> Result<u32, String> {
 
 /// What the library asks during a wait.
 struct Key<'a> {
-    pipe: &'a Pipe,
+    pipes: &'a Pipes,
     after: Option<Duration>,
     /// When the touch comes for which is waited.
     touched: Option<Instant>,
@@ -92,7 +85,7 @@ impl Env for Key<'_> {
     type Error = Stopped;
 
     fn now_ms(&mut self) -> u64 {
-        self.pipe.now_ms()
+        self.pipes.now_ms()
     }
 
     fn check_init(&mut self) {
@@ -108,10 +101,10 @@ impl Env for Key<'_> {
     ) -> Result<(UserPresence, RecvStatus), Stopped> {
         let delayed = Instant::now() + Duration::from_millis(timeout_ms.into());
         let until = self.touched.map_or(delayed, |at| at.min(delayed));
-        let received = match self.pipe.receive_until(until)? {
+        let received = match self.pipes.receive_until(until)? {
             Received::Packet(arrived) => {
-                *packet = arrived;
-                RecvStatus::Received(INTERFACE)
+                *packet = arrived.packet;
+                RecvStatus::Received(arrived.interface)
             }
             // what was touched for is still answered
             Received::EndOfInput if !self.is_touched() => return Err(Stopped::EndOfInput),
@@ -124,8 +117,8 @@ impl Env for Key<'_> {
         Ok((presence, received))
     }
 
-    fn send(&mut self, packet: &HidPacket, _interface: u32) -> Result<(), Stopped> {
-        Ok(pipe::send(packet)?)
+    fn send(&mut self, packet: &HidPacket, interface: u32) -> Result<(), Stopped> {
+        Ok(self.pipes.send(packet, interface)?)
     }
 
     fn check_complete(&mut self) {
