@@ -1,8 +1,10 @@
 // Shim. The real ctap/mod.rs is the authenticator above the transport and needs crates that are
-// not at hand. Here stands what the transport asks of it.
+// not at hand. Here stands what the transport and the real lib.rs ask of it.
 pub mod hid;
 pub mod main_hid;
 pub mod status_code;
+#[cfg(feature = "vendor_hid")]
+pub mod vendor_hid;
 #[cfg(feature = "vendor_hid")]
 mod wait;
 
@@ -13,10 +15,15 @@ use crate::env::Env;
 use alloc::vec::Vec;
 use core::marker::PhantomData;
 
-/// With vendor_hid it is the real one.
+/// With vendor_hid this and the next are the real ones.
 #[cfg(not(feature = "vendor_hid"))]
 pub enum Channel {
     MainHid(hid::ChannelID),
+}
+
+#[cfg(not(feature = "vendor_hid"))]
+pub enum Transport {
+    MainHid,
 }
 
 /// Stands for the authenticator: keeps what the transport hands over, and answers with `reply`.
@@ -37,6 +44,22 @@ impl<E: Env> CtapState<E> {
 
     pub fn process_command(&mut self, _env: &mut E, payload: &[u8], _channel: Channel) -> Vec<u8> {
         self.answer(CtapHidCommand::Cbor, payload)
+    }
+
+    // lib.rs hands these on, and nobody calls them
+
+    pub fn can_sleep(&mut self, _env: &mut E) -> bool {
+        unreachable!()
+    }
+
+    #[cfg(feature = "ctap1")]
+    pub fn u2f_grant_user_presence(&mut self, _env: &mut E) {
+        unreachable!()
+    }
+
+    #[cfg(feature = "ctap1")]
+    pub fn u2f_needs_user_presence(&mut self, _env: &mut E) -> bool {
+        unreachable!()
     }
 
     fn answer(&mut self, cmd: CtapHidCommand, payload: &[u8]) -> Vec<u8> {

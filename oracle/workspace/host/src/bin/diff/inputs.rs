@@ -1,8 +1,11 @@
 //! The traffic as lines: for the bench program, and for crates/replay.
-use crate::pair::{Pair, Setup, Step, U2F};
+use crate::Driver;
+use crate::compare::U2F;
+use crate::hosts::{self, Hosts};
+use crate::pair::{Pair, Setup, Step};
 use crate::random::Random;
-use crate::traffic::{self, Hosts};
-use crate::{Driver, hex};
+use crate::shortest::hex;
+use crate::traffic;
 use std::io::{BufWriter, Result, Write, stdout};
 
 /// One device from its set-up, as the bench program has it. One line in eight is not of its form, or
@@ -74,7 +77,7 @@ impl Run {
         Run {
             pair: driver.pair(setup),
             hosts: Hosts::new(random),
-            time: traffic::start(random),
+            time: hosts::start(random),
             wild: false,
             thin: false,
         }
@@ -88,11 +91,7 @@ impl Run {
         }
         let state = self.pair.state();
         let mut time = self.time;
-        let mut step = if self.wild {
-            traffic::wild(random, state, None, &mut time)
-        } else {
-            self.hosts.step(random, state, None, &mut time)
-        };
+        let mut step = traffic::step(random, &mut self.hosts, self.wild, state, None, &mut time);
         if self.thin {
             step.packet[10..].fill(0);
         }

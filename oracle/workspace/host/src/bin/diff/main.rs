@@ -7,20 +7,26 @@
 //! where the two differ, after the shortest run that it can find.
 //! --lines N and --runs N print N lines of such traffic instead, for bench.rs and crates/replay.
 mod allowance;
+mod compare;
 mod definition;
+mod hosts;
 mod inputs;
+mod lent;
 mod ours;
 mod pair;
 mod random;
+mod shortest;
 mod traffic;
 
+use compare::U2F;
 use definition::{FAULTS, VENDOR};
+use hosts::Hosts;
 use ours::{ECHO, MESSAGE, NOTHING};
-use pair::{Pair, Setup, Step, U2F};
+use pair::{Pair, Setup, Step};
 use random::Random;
+use shortest::{hex, shortest};
 use std::process::exit;
 use std::sync::Arc;
-use traffic::Hosts;
 
 struct Driver {
     seed: u64,
@@ -230,7 +236,7 @@ impl Driver {
         refusals
     }
 
-    /// With each of the 128 commands: a message of 1 byte, one of 58, and a first packet that declares too much.
+    /// With each of the 128 commands; what it declares at last is too much.
     fn each_command(&mut self, list: Option<Vec<u8>>) {
         let setup = Setup {
             max: 117,
@@ -241,23 +247,14 @@ impl Driver {
         };
         let mut pair = self.pair(&setup);
         let mut run = vec![];
-        for cmd in 128..=255 {
-            for front in [
-                [1, cmd, 0, 1],
-                [1, cmd, 0, 58],
-                [1, 0, 0, 0],
-                [1, cmd, 0, 118],
-            ] {
-                let mut packet = [0; 64];
-                packet[3..7].copy_from_slice(&front);
-                run.push(Step {
-                    time: 0,
-                    disabled: false,
-                    packet,
-                    answer: 0,
-                });
-                self.step(&mut pair, &setup, &run);
-            }
+        for packet in hosts::each_command() {
+            run.push(Step {
+                time: 0,
+                disabled: false,
+                packet,
+                answer: 0,
+            });
+            self.step(&mut pair, &setup, &run);
         }
     }
 
@@ -267,21 +264,25 @@ impl Driver {
         while self.done < end {
             let mut setup = traffic::setup(&mut random);
             if with_lists {
-                setup.list = Some(traffic::list(&mut random));
+                setup.list = Some(hosts::list(&mut random));
             }
             let list = setup.list.as_deref();
-            let mut time = traffic::start(&mut random);
+            let mut time = hosts::start(&mut random);
             let mut hosts = Hosts::new(&mut random);
             let wild = random.one_in(2);
             let mut pair = self.pair(&setup);
             let mut run = vec![];
             let len = if wild { 200 } else { 400 };
             while run.len() < len && self.done < end {
-                run.push(if wild {
-                    traffic::wild(&mut random, pair.state(), list, &mut time)
-                } else {
-                    hosts.step(&mut random, pair.state(), list, &mut time)
-                });
+                let (hosts, state) = (&mut hosts, pair.state());
+                run.push(traffic::step(
+                    &mut random,
+                    hosts,
+                    wild,
+                    state,
+                    list,
+                    &mut time,
+                ));
                 self.step(&mut pair, &setup, &run);
             }
             if !wild {
@@ -348,24 +349,7 @@ impl Driver {
             },
             self.seed
         );
-        let mut run = run.to_vec();
-        // ever smaller pieces out, for as long as any difference is left
-        let mut piece = run.len().div_ceil(2);
-        while piece > 0 {
-            let mut at = 0;
-            while at < run.len() {
-                let mut less = run.clone();
-                less.drain(at..(at + piece).min(run.len()));
-                match self.difference(setup, &less) {
-                    Some((len, _)) => {
-                        less.truncate(len);
-                        run = less;
-                    }
-                    None => at += piece,
-                }
-            }
-            piece /= 2;
-        }
+        let run = shortest(run, |less| self.difference(setup, less).map(|(len, _)| len));
         let (_, what) = self.difference(setup, &run).unwrap();
         println!("the shortest run found has {} steps: {what}", run.len());
         println!("{setup:?}, {} U2F", if U2F { "with" } else { "without" });
@@ -380,10 +364,4 @@ impl Driver {
         }
         exit(1)
     }
-}
-
-/// Without the zero bytes at the end, as the bench program reads it.
-fn hex(packet: &[u8; 64]) -> String {
-    let len = packet.iter().rposition(|b| *b != 0).map_or(1, |at| at + 1);
-    packet[..len].iter().map(|b| format!("{b:02x}")).collect()
 }

@@ -1,23 +1,17 @@
 //! OpenSK and ours, side by side: each step goes through both, and all that can be seen is compared. A device with a list of
 //! vendor commands, which OpenSK hasn't, is compared with the definition alone.
 use crate::allowance;
+use crate::compare::{self, U2F, packets, same};
 use crate::definition::{BROADCAST, Definition, Effect};
-use crate::ours::{self, ECHO, MESSAGE, NOTHING, Outcome, REPLY};
-use host::{HostEnv, Timer};
+use crate::lent::{Lent, next_scribble, write};
+use crate::ours::{self, MESSAGE, Outcome, REPLY};
+use host::HostEnv;
 use opensk::ctap::CtapState;
 use opensk::ctap::hid::{
     CtapHid, CtapHidCommand, HidPacket, HidPacketIterator, KeepaliveStatus, Message,
     ProcessedPacket,
 };
 use opensk::ctap::main_hid::MainHid;
-
-/// OpenSK's CTAP2_ERR_VENDOR_INTERNAL_ERROR; a setting on our side.
-pub const INTERNAL_ERROR: u8 = 0xf2;
-
-pub const LAST_TIME: u64 = (1 << 48) - 1;
-
-/// Whether OpenSK's outer layer is built with U2F.
-pub const U2F: bool = cfg!(feature = "ctap1");
 
 #[derive(Clone, Debug)]
 pub struct Setup {
@@ -39,59 +33,6 @@ pub struct Step {
     pub packet: HidPacket,
     /// The length of what the authenticator answers, should the step hand something over.
     pub answer: usize,
-}
-
-/// A buffer with bytes around it that nobody may write.
-struct Lent {
-    bytes: Vec<u8>,
-    len: usize,
-}
-
-const FENCE: usize = 64;
-
-impl Lent {
-    fn new(len: usize) -> Self {
-        let bytes = vec![0xa5; len + 2 * FENCE];
-        Lent { bytes, len }
-    }
-
-    fn part(&mut self) -> &mut [u8] {
-        &mut self.bytes[FENCE..FENCE + self.len]
-    }
-
-    fn front(&self, len: usize) -> &[u8] {
-        &self.bytes[FENCE..FENCE + len.min(self.len)]
-    }
-
-    /// As a definition would: what does not fit is left out.
-    fn write(&mut self, at: usize, data: &[u8]) {
-        let end = (at + data.len()).min(self.len);
-        if at < end {
-            self.part()[at..end].copy_from_slice(&data[..end - at]);
-        }
-    }
-
-    /// As a caller may between two calls: other bytes behind those that it owes.
-    fn scribble(&mut self, owed: usize, first: u8) {
-        let free = &mut self.part()[owed..];
-        free.copy_from_slice(&COUNTING[first as usize..][..free.len()]);
-    }
-}
-
-/// What is scribbled: one up from byte to byte.
-static COUNTING: [u8; 8192] = {
-    let mut bytes = [0; 8192];
-    let mut at = 0;
-    while at < bytes.len() {
-        bytes[at] = at as u8;
-        at += 1;
-    }
-    bytes
-};
-
-/// The first byte of the scribble after one.
-fn next_scribble(first: u8) -> u8 {
-    first.wrapping_add(0x3b)
 }
 
 /// Our two machines, the transport alone and the device, each with its own buffers.
@@ -121,12 +62,12 @@ impl Ours {
             self.outer.hid = definition.hid;
             self.outer.wink = definition.wink;
             let data = &packet[effect.data.clone()];
-            self.inner_message.write(effect.at, data);
-            self.outer_message.write(effect.at, data);
-            self.inner_reply.write(0, &effect.inner_reply);
-            self.outer_reply.write(0, &effect.outer_reply);
+            write(self.inner_message.part(), effect.at, data);
+            write(self.outer_message.part(), effect.at, data);
+            write(self.inner_reply.part(), 0, &effect.inner_reply);
+            write(self.outer_reply.part(), 0, &effect.outer_reply);
             if definition.is("reply-buffer-cleared") && effect.outer_reply.len() == 1 {
-                self.outer_reply.write(1, &[0; 16]);
+                write(self.outer_reply.part(), 1, &[0; 16]);
             }
             return (effect.inner, effect.outer);
         }
@@ -191,21 +132,6 @@ pub struct Pair {
     last: Outcome,
     /// Whether the last step was allowed for.
     allowed: bool,
-}
-
-macro_rules! same {
-    ($what:expr, $wanted:expr, $ours:expr) => {
-        match (&$wanted, &$ours) {
-            (wanted, ours) => {
-                if wanted != ours {
-                    let what = $what;
-                    return Err(format!(
-                        "{what}: wanted {wanted:02x?}, ours has {ours:02x?}"
-                    ));
-                }
-            }
-        }
-    };
 }
 
 impl Pair {
@@ -343,12 +269,12 @@ impl Pair {
         self.last = our_outer;
 
         // the transport's answer
-        let said = match our_inner.kind {
-            NOTHING => None,
-            MESSAGE | ECHO => Some(self.ours.inner_message.front(our_inner.len)),
-            REPLY => Some(self.ours.inner_reply.front(our_inner.len)),
-            _ => return Err(format!("transport: ours answers {our_inner:?}")),
-        }
+        let said = compare::payload(
+            "transport",
+            &our_inner,
+            &self.ours.inner_message,
+            &self.ours.inner_reply,
+        )?
         .map(|payload| (our_inner.cid, our_inner.cmd, payload));
         let wanted = inner
             .as_ref()
@@ -381,34 +307,14 @@ impl Pair {
         }
 
         // the device's answer
-        let mut payload = match our_outer.kind {
-            NOTHING => None,
-            MESSAGE | ECHO => Some(self.ours.outer_message.front(our_outer.len)),
-            REPLY => Some(self.ours.outer_reply.front(our_outer.len)),
-            _ => return Err(format!("device: ours answers {our_outer:?}")),
-        }
-        .map(<[u8]>::to_vec);
-        let mut our_handed = vec![];
-        if our_outer.kind == MESSAGE {
-            // the caller's part: it asks the authenticator, and adds the status word to a U2F reply
-            let asked = payload.replace(self.authenticator.reply.clone()).unwrap();
-            our_handed.push((CtapHidCommand::from(our_outer.cmd), asked));
-            if our_outer.cmd == 3 {
-                payload.as_mut().unwrap().extend([0x90, 0]);
-            }
-        }
-        same!("handed over", handed, our_handed);
-        match payload {
-            None => {
-                same!("has_data", outer.has_data(), false);
-                same!(
-                    "packets",
-                    outer.collect::<Vec<_>>(),
-                    Vec::<HidPacket>::new()
-                );
-            }
-            Some(payload) => packets(outer, our_outer.cid, our_outer.cmd, &payload, self.fault)?,
-        }
+        let payload = compare::payload(
+            "device",
+            &our_outer,
+            &self.ours.outer_message,
+            &self.ours.outer_reply,
+        )?;
+        let reply = &self.authenticator.reply;
+        compare::answer(outer, &handed, reply, &our_outer, payload, self.fault)?;
 
         // the questions
         let lock = self.inner.has_channel_lock(&mut self.env);
@@ -498,69 +404,36 @@ impl Pair {
         let wink = self.outer.oracle_wink().0.filter(|end| time < *end);
         let our_wink = Some(self.ours.outer.wink).filter(|end| time < *end);
         same!("end of the wink", wink, our_wink);
-        for (name, hid, ours) in [
-            ("transport", &self.inner, &self.ours.inner),
-            ("device", self.outer.oracle_hid(), &self.ours.outer.hid),
+        for (name, hid, ours, message) in [
+            (
+                "transport",
+                &self.inner,
+                &self.ours.inner,
+                &self.ours.inner_message,
+            ),
+            (
+                "device",
+                self.outer.oracle_hid(),
+                &self.ours.outer.hid,
+                &self.ours.outer_message,
+            ),
         ] {
-            let peek = hid.oracle_peek();
-            same!(
-                format!("{name}: count"),
-                peek.allocated_cids,
-                ours.allocated
-            );
             same!(format!("{name}: last time"), time, ours.last);
             same!(
                 format!("{name}: settings"),
                 (self.env.customization.max_msg_size as u32, U2F),
                 (ours.max, ours.u2f != 0)
             );
-            let Timer(until) = peek.lock_timer;
-            let lock = peek
-                .locked_cid
-                .map(|cid| (u32::from_be_bytes(cid), until.unwrap()))
-                .filter(|(_, until)| time < *until);
-            let our_lock = Some((ours.locked, ours.lock)).filter(|(_, until)| time < *until);
-            same!(format!("{name}: lock"), lock, our_lock);
-            let transaction = peek.transaction.as_ref().map(|x| {
-                let taken = x.payload.len();
-                (
-                    u32::from_be_bytes(x.cid),
-                    x.cmd as u16,
-                    x.seq as u16,
-                    taken as u32,
-                    (taken + x.remaining_payload_len) as u32,
-                    x.timer.0.unwrap(),
-                )
-            });
-            let a = &ours.assembler;
-            let our_transaction =
-                (a.len > 0).then_some((a.cid, a.cmd, a.seq, a.taken, a.len, a.deadline));
-            same!(format!("{name}: transaction"), transaction, our_transaction);
-            // OpenSK counts bytes; due are as few continuations as hold the missing ones
-            let missing = peek.transaction.as_ref().map(|x| x.remaining_payload_len);
-            let due = missing.unwrap_or(0).div_ceil(59);
-            same!(format!("{name}: still due"), due, ours.still_due as usize);
-            // of one that is over, ours no longer has them
-            if let Some(x) = peek.transaction.filter(|x| x.timer.0 > Some(time)) {
-                let message = match name {
-                    "transport" => &self.ours.inner_message,
-                    _ => &self.ours.outer_message,
-                };
-                same!(
-                    format!("{name}: bytes taken"),
-                    &x.payload[..],
-                    message.front(x.payload.len())
-                );
-            }
+            compare::state(name, hid, ours, message, time)?;
         }
         Ok(())
     }
 
     /// What the definition writes, into the buffers that it has beside ours.
     fn write(&mut self, effect: &Effect, packet: &HidPacket) {
-        self.message.write(effect.at, &packet[effect.data.clone()]);
-        self.inner_reply.write(0, &effect.inner_reply);
-        self.outer_reply.write(0, &effect.outer_reply);
+        write(self.message.part(), effect.at, &packet[effect.data.clone()]);
+        write(self.inner_reply.part(), 0, &effect.inner_reply);
+        write(self.outer_reply.part(), 0, &effect.outer_reply);
     }
 
     fn buffers(&self) -> Result<(), String> {
@@ -578,17 +451,7 @@ impl Pair {
             ),
             ("device: reply", &self.outer_reply, &self.ours.outer_reply),
         ] {
-            if wanted.bytes != ours.bytes {
-                let at = wanted
-                    .bytes
-                    .iter()
-                    .zip(&ours.bytes)
-                    .position(|(a, b)| a != b);
-                return Err(format!(
-                    "{name} buffer: byte {} is not what the definition says",
-                    at.unwrap() as isize - FENCE as isize
-                ));
-            }
+            wanted.compare(name, ours)?;
         }
         Ok(())
     }
@@ -662,50 +525,6 @@ pub fn read(packet: &HidPacket, fault: &str) -> Result<(), String> {
     let part = &packet[if kind == ours::FIRST { 7 } else { 5 }..];
     same!("the packet's data", data, part);
     Ok(())
-}
-
-/// OpenSK's packets against ours by index, has_data against our count, and the end.
-pub fn packets(
-    mut opensk: HidPacketIterator,
-    cid: u32,
-    cmd: u8,
-    payload: &[u8],
-    fault: &str,
-) -> Result<(), String> {
-    let len = if payload.len() > 7609 {
-        1
-    } else {
-        payload.len()
-    };
-    let count = ours::packet_count(len);
-    same!("kind of a count", ours::COUNT, count.kind);
-    for index in 0.. {
-        let mut packet = [0x5a; 64];
-        let internal_error = match fault {
-            "split-long-at-7610" if payload.len() == 7610 => 0,
-            _ => INTERNAL_ERROR,
-        };
-        let number = ours::split_message(cid, cmd, payload, internal_error, index, &mut packet);
-        if fault == "sender-number-1" && index > 0 && number == 0 {
-            packet[4] += 1;
-        }
-        if fault == "sender-stale-bytes" && index + 1 == count.len && len == 58 {
-            packet[63] = 0x5a;
-        }
-        same!("has_data", opensk.has_data(), index < count.len);
-        match opensk.next() {
-            Some(wanted) => {
-                same!("writing", 0, number);
-                same!(format!("packet {index}"), wanted, packet);
-            }
-            None => {
-                same!("writing past the last", 6, number);
-                same!("a packet not written", [0x5a; 64], packet);
-                return Ok(());
-            }
-        }
-    }
-    unreachable!()
 }
 
 /// The two replies that OpenSK's transport makes of a channel alone.
@@ -841,7 +660,7 @@ impl Host<'_> {
         left: ours::Collection,
     ) -> Result<(), String> {
         self.scribble();
-        self.wanted.write(self.collection.taken as usize, data);
+        write(self.wanted.part(), self.collection.taken as usize, data);
         let mut packet = *packet;
         let mut cid = self.cid;
         match self.fault {
@@ -851,7 +670,7 @@ impl Host<'_> {
         }
         let outcome = ours::host_read(&mut self.collection, cid, &packet, self.buffer.part());
         if self.fault == "host-spare-bytes-written" && outcome.kind == ours::COLLECTED {
-            self.buffer.write(outcome.len, &[0]);
+            write(self.buffer.part(), outcome.len, &[0]);
         }
         same!("host: answer", wanted, outcome);
         same!("host: collection", left, self.collection);

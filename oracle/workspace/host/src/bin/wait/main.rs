@@ -12,6 +12,8 @@ mod ours;
 mod pair;
 #[path = "../diff/random.rs"]
 mod random;
+#[path = "../diff/shortest.rs"]
+mod shortest;
 mod traffic;
 
 use counts::Counts;
@@ -21,6 +23,7 @@ use opensk::api::connection::UsbEndpoint::{MainHid, VendorHid};
 use opensk::ctap::status_code::Ctap2StatusCode;
 use pair::{Ended, Pair};
 use random::Random;
+use shortest::{hex, shortest};
 use std::process::exit;
 use traffic::{Maker, Setup};
 
@@ -261,21 +264,9 @@ impl Driver {
             self.waits - before,
             self.seed
         );
-        let mut run = self.pair.key().moments.clone();
-        // ever smaller pieces out, for as long as any difference is left
-        let mut piece = run.len().div_ceil(2);
-        while piece > 0 {
-            let mut at = 0;
-            while at < run.len() {
-                let mut less = run.clone();
-                less.drain(at..(at + piece).min(run.len()));
-                match self.difference(setup, &less) {
-                    Some(_) => run = less,
-                    None => at += piece,
-                }
-            }
-            piece /= 2;
-        }
+        let moments = self.pair.key().moments.clone();
+        let differs = |less: &[Moment]| self.difference(setup, less).map(|_| less.len());
+        let run = shortest(&moments, differs);
         let what = self.difference(setup, &run).unwrap_or(what);
         println!("the shortest wait found has {} moments: {what}", run.len());
         println!("{setup:x?}");
@@ -299,10 +290,4 @@ fn say(moment: &Moment) {
         Trouble::None => println!(),
         trouble => println!(", fails: {trouble:?}"),
     }
-}
-
-/// Without the zero bytes at the end.
-fn hex(packet: &[u8; 64]) -> String {
-    let len = packet.iter().rposition(|b| *b != 0).map_or(1, |at| at + 1);
-    packet[..len].iter().map(|b| format!("{b:02x}")).collect()
 }

@@ -3,6 +3,7 @@ use crate::counts::Counts;
 use crate::definition::Definition;
 use crate::env::{DELAY, Event, Key, LIMIT, Moment, Presence, Trouble, code};
 use crate::ours::{self, Beginning, Call, Ours, Wait, WaitOutcome, ending, presence};
+use crate::shortest::hex;
 use crate::traffic::Setup;
 use opensk::api::connection::UsbEndpoint;
 use opensk::ctap::status_code::Ctap2StatusCode;
@@ -325,7 +326,7 @@ impl Pair {
 
 fn shown(event: Option<&Event>) -> String {
     match event {
-        Some(Event::Sent(endpoint, packet)) => format!("{endpoint:?} {}", crate::hex(packet)),
+        Some(Event::Sent(endpoint, packet)) => format!("{endpoint:?} {}", hex(packet)),
         Some(event) => format!("{event:?}"),
         None => "nothing".to_string(),
     }
