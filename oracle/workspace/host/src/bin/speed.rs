@@ -8,6 +8,9 @@ extern crate alloc;
 #[allow(dead_code)]
 #[path = "diff/ours.rs"]
 mod ours;
+#[allow(dead_code)]
+#[path = "interfaces/raw_key.rs"]
+mod raw_key;
 
 use alloc::format;
 use alloc::vec;
@@ -17,7 +20,7 @@ use host::HostEnv;
 use opensk::ctap::CtapState;
 use opensk::ctap::hid::{CtapHid, HidPacket};
 use opensk::ctap::main_hid::MainHid;
-use ours::{COLLECTED, ECHO, MESSAGE, REPLY};
+use ours::{COLLECTED, ECHO, MESSAGE, REPLY, raw};
 
 const LARGEST: usize = 7609;
 const BROADCAST: u32 = 0xffff_ffff;
@@ -180,21 +183,51 @@ impl Side for OursReceived {
     }
 }
 
-struct OursDevice<const DRAWN: bool> {
-    hid: ours::MainHid,
+/// What our device's side is counted for: the device of one interface, or an interface of a key with two.
+trait Device {
+    fn step(&mut self, packet: &[u8], message: &mut [u8], reply: &mut [u8]) -> ours::Outcome;
+}
+
+impl Device for ours::MainHid {
+    #[inline(always)]
+    fn step(&mut self, packet: &[u8], message: &mut [u8], reply: &mut [u8]) -> ours::Outcome {
+        ours::device_step(self, TIME, false, packet, message, reply)
+    }
+}
+
+struct Main(raw_key::Key);
+
+impl Device for Main {
+    #[inline(always)]
+    fn step(&mut self, packet: &[u8], message: &mut [u8], reply: &mut [u8]) -> ours::Outcome {
+        raw_key::main_step(&mut self.0, TIME, packet, message, reply)
+    }
+}
+
+struct Vendor(raw_key::Key);
+
+impl Device for Vendor {
+    #[inline(always)]
+    fn step(&mut self, packet: &[u8], message: &mut [u8], reply: &mut [u8]) -> ours::Outcome {
+        raw_key::vendor_step(&mut self.0, TIME, packet, message, reply)
+    }
+}
+
+struct OursDevice<D, const DRAWN: bool> {
+    device: D,
     message: Vec<u8>,
     reply: Vec<u8>,
 }
 
-impl<const DRAWN: bool> Side for OursDevice<DRAWN> {
+impl<D: Device, const DRAWN: bool> Side for OursDevice<D, DRAWN> {
     #[inline(always)]
     fn step(&mut self, packet: &HidPacket, sink: &mut impl FnMut(&[u8])) {
         let OursDevice {
-            hid,
+            device,
             message,
             reply,
         } = self;
-        let outcome = ours::device_step(hid, TIME, false, packet, message, reply);
+        let outcome = device.step(packet, message, reply);
         if !DRAWN {
             black_box(&outcome);
             return;
@@ -250,13 +283,15 @@ impl Side for Copy {
 
 // ---- jobs
 
-pub const JOBS: [&str; 6] = [
+pub const JOBS: [&str; 8] = [
     "rust:received",
     "rust:device",
     "rust:drawn",
     "ours:received",
     "ours:device",
     "ours:drawn",
+    "ours:main",
+    "ours:vendor",
 ];
 
 /// Feeds a row's packets so many times, after what comes before.
@@ -296,12 +331,22 @@ fn rust_device<const DRAWN: bool>() -> RustDevice<DRAWN> {
     }
 }
 
-fn ours_device<const DRAWN: bool>() -> OursDevice<DRAWN> {
+fn ours_device<D, const DRAWN: bool>(device: D) -> OursDevice<D, DRAWN> {
     OursDevice {
-        hid: ours::device_new(LARGEST, true, &[]).0,
+        device,
         message: vec![0; LARGEST],
         reply: vec![0; 17],
     }
+}
+
+fn device() -> ours::MainHid {
+    ours::device_new(LARGEST, true, &[]).0
+}
+
+fn key() -> raw_key::Key {
+    let mut key = raw_key::Key::default();
+    raw_key::new(&mut key, LARGEST, LARGEST, true, &[]);
+    key
 }
 
 pub fn run(job: &str, row: &Row, count: usize, sink: impl FnMut(&[u8])) {
@@ -323,8 +368,12 @@ pub fn run(job: &str, row: &Row, count: usize, sink: impl FnMut(&[u8])) {
             };
             feed(side, row, count, sink)
         }
-        "ours:device" => feed(ours_device::<false>(), row, count, sink),
-        "ours:drawn" => feed(ours_device::<true>(), row, count, sink),
+        "ours:device" => feed(ours_device::<_, false>(device()), row, count, sink),
+        "ours:drawn" => feed(ours_device::<_, true>(device()), row, count, sink),
+        "ours:main" => feed(ours_device::<_, false>(Main(key())), row, count, sink),
+        "ours:vendor" => feed(ours_device::<_, false>(Vendor(key())), row, count, sink),
+        "ours:main-drawn" => feed(ours_device::<_, true>(Main(key())), row, count, sink),
+        "ours:vendor-drawn" => feed(ours_device::<_, true>(Vendor(key())), row, count, sink),
         "ours:host" => {
             let side = OursHost {
                 collection: ours::Collection::default(),
@@ -345,15 +394,19 @@ pub fn run(job: &str, row: &Row, count: usize, sink: impl FnMut(&[u8])) {
 
 pub fn check(rows: &[Row]) {
     for row in rows {
-        for what in ["received", "drawn"] {
-            let [rust, ours] = ["rust", "ours"].map(|side| {
-                let mut said = vec![];
-                run(&format!("{side}:{what}"), row, 3, |bytes| {
-                    said.push(bytes.to_vec())
-                });
-                said
-            });
-            assert_eq!(rust, ours, "{what} {}", row.name);
+        let said = |job: &str| {
+            let mut said = vec![];
+            run(job, row, 3, |bytes| said.push(bytes.to_vec()));
+            said
+        };
+        for (what, ours) in [
+            ("received", "received"),
+            ("drawn", "drawn"),
+            ("drawn", "main-drawn"),
+            ("drawn", "vendor-drawn"),
+        ] {
+            let [rust, ours] = [format!("rust:{what}"), format!("ours:{ours}")];
+            assert_eq!(said(&rust), said(&ours), "{ours} {}", row.name);
         }
     }
     let long = rows.iter().find(|row| row.name == "ping-7609").unwrap();
