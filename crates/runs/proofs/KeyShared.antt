@@ -182,8 +182,8 @@ module _ (caller : KeyCaller) (well : MindsWell caller) where
     locks-on main = ap (λ (x : Transport). x .lock) (means-on main)
     locks-on vendor = ap (λ (x : Transport). x .lock) (means-on vendor)
 
-    on-as : (i : Interface) (c time : ℕ) → isOn (mine i .receiver) c time ≡ isOn (side (d .transports) i .receiver) c time
-    on-as i c time =
+    on-alike : (i : Interface) (c time : ℕ) → isOn (mine i .receiver) c time ≡ isOn (side (d .transports) i .receiver) c time
+    on-alike i c time =
         sym (is-on-forgets (h .key .main .hid .last) time c (mine i .receiver))
         ∙ (ap (λ (x : Transport). isOn (x .receiver) c time) (means-on i)
         ∙ (is-on-forgets (h .key .main .hid .last) time c _ ∙ ap (λ (x : Receiver). isOn x c time) (same-receiver i)))
@@ -192,8 +192,8 @@ module _ (caller : KeyCaller) (well : MindsWell caller) where
     due-as main = due-tells (h .key .main .hid) (h .key .main .wink) (h .key .main .hid .last) (h .main .message) _ (s .follows .sound .main) (means-on main)
     due-as vendor = due-tells (vendorIn (h .key)) 0 (h .key .main .hid .last) (h .vendor .message) _ (s .follows .sound .vendor) (means-on vendor)
 
-    wink-as : h .key .main .wink ≡ d .wink
-    wink-as = s .follows .wink ∙ ap (λ (x : definition.Key). x .wink) relists
+    wink-alike : h .key .main .wink ≡ d .wink
+    wink-alike = s .follows .wink ∙ ap (λ (x : definition.Key). x .wink) relists
 
     -- a question at a time that no refusal meets
     asked : (time until : ℕ) → latestOf past ≤ time → time ≤ 0xffff_ffff_ffff → keyRunningOf (h .key) time until ≡ pick (ltb time until) Yes No
@@ -205,9 +205,9 @@ module _ (caller : KeyCaller) (well : MindsWell caller) where
   alike : KeyAnswersAlike (keyCode caller)
   alike set permitted past taken time later =
       record {
-        on = λ i c. on-as set permitted past taken i c time;
+        on = λ i c. on-alike set permitted past taken i c time;
         locked = λ i c. ap (λ (l : Lock). isLockedBy l c time) (locks-on set permitted past taken i);
-        winking = ap (ltb time) (wink-as set permitted past taken);
+        winking = ap (ltb time) (wink-alike set permitted past taken);
       }
 
 pub key-code-serves : KeyCodeServes
@@ -220,5 +220,5 @@ key-code-serves caller well =
       locks = λ set permitted past taken time later early i.
           asked caller well set permitted past taken time _ later early ∙ ap (λ (l : Lock). pick (isLocked l time) Yes No) (locks-on caller well set permitted past taken i);
       wink = λ set permitted past taken time later early.
-          asked caller well set permitted past taken time _ later early ∙ ap (λ (until : ℕ). pick (ltb time until) Yes No) (wink-as caller well set permitted past taken);
+          asked caller well set permitted past taken time _ later early ∙ ap (λ (until : ℕ). pick (ltb time until) Yes No) (wink-alike caller well set permitted past taken);
     }
