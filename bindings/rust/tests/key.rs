@@ -346,6 +346,26 @@ fn both_have_one_last_time() {
     }
 }
 
+/// It counts beyond 32 bits.
+#[test]
+fn time_is_long() {
+    let late = 1 << 32;
+    for first in BOTH {
+        let (mut main, mut vendor) = ([0; 100], [0; 100]);
+        let mut key = with_channels(&mut main, &mut vendor, true);
+        must_serve(&mut key, MAIN, 0, message(ONE, WINK, &[]));
+        must_serve(&mut key, VENDOR, 0, lock(&[1]));
+        assert_eq!(key.should_wink(late), Ok(false));
+        assert_eq!(locks(&key, late), [false, false]);
+        must_serve(&mut key, first, late, lock(&[1]));
+        assert_eq!(locks(&key, late + 999), BOTH.map(|side| side == first));
+        for transport in BOTH {
+            let refused = ask(&mut On(&mut key, transport), late - 1, ping(ONE));
+            assert_eq!(refused, Err(Refusal::Time));
+        }
+    }
+}
+
 #[test]
 fn without_u2f_msg_is_no_command_on_either() {
     let (mut main, mut vendor) = ([0; 100], [0; 100]);
