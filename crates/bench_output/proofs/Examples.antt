@@ -3,7 +3,7 @@ use mathlib.Core.Path.{refl}
 use mathlib.Core.List.{flatten}
 use Rattle.ctaphid.specs.Choice.{pick}
 use Rattle.ctaphid.specs.Packets.{written}
-use Rattle.ctaphid.specs.Messages.{later, chunks, padded, fields, continuations, packets}
+use Rattle.ctaphid.specs.Messages.{later, chunks, padded, fields, numbered, packets}
 use Rattle.bench_input.specs.Hex.{hexOf}
 use Rattle.bench_output.specs.Placing.{decimal}
 use Rattle.bench_output.specs.Packets.{frontZerosDropped, endZerosDropped, trimmed, packetLine, packetLines}
@@ -11,7 +11,7 @@ use Rattle.bench_output.specs.Printing.{commandLine, refusedLine, answer
 use Rattle.bench_output.specs.Examples.{ExampleLines}
 
 pub example-lines : ExampleLines
-unfolding pick flatten written later chunks padded fields continuations packets hexOf decimal frontZerosDropped endZerosDropped trimmed packetLine commandLine refusedLine packetLines answerLines
+unfolding pick flatten written later chunks padded fields numbered packets hexOf decimal frontZerosDropped endZerosDropped trimmed packetLine commandLine refusedLine packetLines answerLines
 example-lines = record {
   init = refl;
   ping = refl;

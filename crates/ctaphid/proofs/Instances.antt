@@ -10,7 +10,7 @@ use lib.Dec.{ltb, eqb}
 use lib.ListN.{length, getD, replicate}
 use Rattle.ctaphid.specs.Choice.{pick, isIn}
 use Rattle.ctaphid.specs.Packets.{channelIn, declaredIn, read, written}
-use Rattle.ctaphid.specs.Messages.{later, chunks, padded, fields, continuations, packets}
+use Rattle.ctaphid.specs.Messages.{later, chunks, padded, fields, numbered, packets}
 use Rattle.ctaphid.specs.Commands.{PING, CBOR, VENDOR, isVendor, among}
 use Rattle.ctaphid.specs.Settings.{Settings, knows}
 use Rattle.ctaphid.specs.Receiver.{collect, startKnown, start, whenIdle, whenOver, onOwn, whenBusy, receive, isOn}
@@ -89,7 +89,7 @@ two-open l = record { allocated = refl; quiet = λ o. refl; unlocked = λ o h. r
 -- ---- a message in one packet
 
 pub ping-sent : Sending two 1 1 (0xab ∷ 0xcd ∷ []) (at 5 (ping 1)) []
-unfolding written later chunks padded fields continuations packets allBelow pick
+unfolding written later chunks padded fields numbered packets allBelow pick
 ping-sent = record { proper = proper 5 (ping 1) (omega arith) refl refl; onward = omega arith; enabled = refl; following = []; cut = refl; followed = refl }
 
 pub one-packet : (D : AnyDevice) → Delivery D → answer D settings two (at 5 (ping 1)) ≡ reply 1 PING (0xab ∷ 0xcd ∷ [])
@@ -102,7 +102,7 @@ abbrev pub between : List Event
 between = at 50 (ping 2) ∷ at 104 ends ∷ []
 
 pub message-sent : (cmd b : ℕ) → allBelow 256 (at 5 (begins cmd b) .packet) ≡ true → Sending two 1 cmd (message b) (at 5 (begins cmd b)) between
-unfolding written later chunks padded fields continuations packets allBelow pick
+unfolding written later chunks padded fields numbered packets allBelow pick
 message-sent cmd b h =
     record {
       proper = proper 5 (begins cmd b) (omega arith) refl h;

@@ -7,7 +7,7 @@ use mathlib.Core.Bool.{true}
 use mathlib.Core.Logic.{inl, inr}
 use Rattle.ctaphid.specs.Choice.{pick, isIn}
 use Rattle.ctaphid.specs.Packets.{channelIn, declaredIn, read, written}
-use Rattle.ctaphid.specs.Messages.{later, chunks, padded, fields, continuations, packets}
+use Rattle.ctaphid.specs.Messages.{later, chunks, padded, fields, numbered, packets}
 use Rattle.ctaphid.specs.Commands.{CBOR, VENDOR, isVendor, among}
 use Rattle.ctaphid.specs.Settings.{knows}
 use Rattle.ctaphid.specs.Receiver.{collect, startKnown, start, whenIdle, whenOver, onOwn, whenBusy, receive, isOn}
@@ -46,7 +46,7 @@ abbrev pub between : (this that : Interface) → List Arrival
 between this that = at that 50 (ping 1) ∷ at this 104 ends ∷ []
 
 sent : (this that : Interface) (cmd : ℕ) → (that ≡ this → ⊥) → allBelow 256 (at this 5 (begins cmd 7) .packet) ≡ true → SendingOn this ready 1 cmd (message 7) (at this 5 (begins cmd 7)) (between this that)
-unfolding written later chunks padded fields continuations packets allBelow pick
+unfolding written later chunks padded fields numbered packets allBelow pick
 sent this that cmd another h =
     record {
       interface = refl;

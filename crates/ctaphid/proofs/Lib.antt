@@ -3,6 +3,7 @@ pub mod Refusing
 pub mod Packets
 pub mod Commands
 pub mod Splitting
+pub mod Reassembling
 pub mod Messages
 pub mod Transport
 pub mod Device

@@ -7,7 +7,7 @@ use borrow.Author.Tests.{lt-ltb, le-ltb}
 use lib.ListN.{length}
 use Rattle.ctaphid.specs.Choice.{pick, isIn}
 use Rattle.ctaphid.specs.Packets.{byte, channelIn, declaredIn, read, written, Bytes}
-use Rattle.ctaphid.specs.Messages.{later, chunks, padded, fields, continuations, packets, splitWire}
+use Rattle.ctaphid.specs.Messages.{later, chunks, padded, fields, numbered, packets, splitWire}
 use Rattle.ctaphid.specs.Commands.{among, isVendor}
 use Rattle.ctaphid.specs.Settings.{knows}
 use Rattle.ctaphid.specs.Receiver.{collect, startKnown, start, whenIdle, whenOver, onOwn, whenBusy, receive, isOn}
@@ -39,7 +39,7 @@ up-to-255 zero = omega arith
 up-to-255 (suc i) = omega arith
 
 pub further-rows : FurtherRows
-unfolding hear isShut isLockedAgainst isLockedBy isAllocated isValid nextChannel onInit lockFor onLock dispatch knows obey isVendor isIn settle receive whenBusy onOwn whenOver whenIdle start startKnown collect isOn read channelIn declaredIn among onWink onMsg onRequest answered pick packets fields chunks later padded continuations written splitWire
+unfolding hear isShut isLockedAgainst isLockedBy isAllocated isValid nextChannel onInit lockFor onLock dispatch knows obey isVendor isIn settle receive whenBusy onOwn whenOver whenIdle start startKnown collect isOn read channelIn declaredIn among onWink onMsg onRequest answered pick packets fields chunks later padded numbered written splitWire
 further-rows = record {
   commands = refl;
   read-commands = refl;

@@ -2,13 +2,13 @@
 use mathlib.Core.Path.{_≡_, refl, sym, ap, _∙_}
 use Prim.Native.Nat.{ℕ, zero, suc, _+_, _-_, _*_, _/_, _%_, _≤_, _<_}
 use mathlib.Core.List.{List, [], _∷_, _++_, map, flatten, append-nil, append-assoc}
-use native.Mathlib.Nat.{div-add-mod', mod-lt, mul-comm, suc-mul, div-lt-iff-lt-mul, div-eq-of-lt, add-div-right, mul-zero, mul-suc}
+use native.Mathlib.Nat.{div-add-mod', mod-lt, mul-comm, suc-mul, div-lt-iff-lt-mul, div-eq-of-lt, add-div-right, mul-zero, mul-suc, add-zero, zero-add}
 use native.Mathlib.Numerals.{add-one, one-add}
 use native.Mathlib.Omega.{arith}
 use native.Mathlib.Decide.{decLe}
 use lib.ListN.{length, take, drop, getD, length-drop, take-append-drop}
 use lib.Seq.{take-all, take-nil, drop-nil, take-append-seam, take-append-add, drop-drop, length-take-le}
-use Rattle.ctaphid.specs.Messages.{later, chunks, count, padded, fields, room, Cuts}
+use Rattle.ctaphid.specs.Messages.{later, chunks, count, padded, fields, room, numbered, framed, Cuts}
 
 -- a chunk more than hold what is past the first g of n bytes
 one-more : (g : ℕ) → 0 < g → (n : ℕ) → 0 < n → suc ((n - g + (g - 1)) / g) ≡ (n + (g - 1)) / g
@@ -156,6 +156,68 @@ cuts f g some = record {
   full = chunks-full f g some;
 }
 
--- over HID
+-- ---- chunks numbered and framed
+module _ {A : Type 0} (make : ℕ → List ℕ → A) where
+  pub numbered-length : (k : ℕ) (l : List (List ℕ)) → length (numbered make k l) ≡ length l
+  unfolding numbered
+  numbered-length k [] = refl
+  numbered-length k (chunk ∷ l) = ap suc (numbered-length (k + 1) l)
+
+  -- numbers go up by one
+  numbered-at : (k : ℕ) (l : List (List ℕ)) (i : ℕ) (a : A) → i < length l → getD (numbered make k l) i a ≡ make (k + i) (getD l i [])
+  unfolding numbered
+  numbered-at k [] i a p = absurd (omega arith)
+  numbered-at k (chunk ∷ l) zero a p = rw add-zero
+  numbered-at k (chunk ∷ l) (suc i) a p =
+      let e : k + suc i ≡ k + 1 + i = omega arith in
+      rw e (numbered-at (k + 1) l i a (omega arith))
+
+  numbered-mapped : {B : Type 0} (h : A → B) (k : ℕ) (l : List (List ℕ)) → map h (numbered make k l) ≡ numbered (λ i t. h (make i t)) k l
+  unfolding numbered
+  numbered-mapped h k [] = refl
+  numbered-mapped h k (chunk ∷ l) = ap (λ r. h (make k chunk) ∷ r) (numbered-mapped h (k + 1) l)
+
+  numbered-of : (h : List ℕ → List ℕ) (k : ℕ) (l : List (List ℕ)) → numbered make k (map h l) ≡ numbered (λ i t. make i (h t)) k l
+  unfolding numbered
+  numbered-of h k [] = refl
+  numbered-of h k (chunk ∷ l) = ap (λ r. make k (h chunk) ∷ r) (numbered-of h (k + 1) l)
+
+module _ {A : Type 0} (first : List ℕ → A) (make : ℕ → List ℕ → A) (f g : ℕ) (payload : List ℕ) where
+  -- each chunk in its data field, and what is made of each written
+  pub fields-framed : {B : Type 0} (h : A → B)
+      → map h (framed first make (fields f g payload)) ≡ framed (λ t. h (first (padded f t))) (λ i t. h (make i (padded g t))) (chunks f g payload)
+  unfolding fields chunks
+  fields-framed h =
+      ap (λ r. h (first (padded f (take f payload))) ∷ r)
+      (numbered-mapped make h 0 _ ∙ numbered-of (λ i t. h (make i t)) (padded g) 0 (later g (length payload) (drop f payload)))
+
+  pub chunks-framed : {B : Type 0} (h : A → B) → map h (framed first make (chunks f g payload)) ≡ framed (λ t. h (first t)) (λ i t. h (make i t)) (chunks f g payload)
+  unfolding chunks
+  chunks-framed h = ap (λ r. h (first (take f payload)) ∷ r) (numbered-mapped make h 0 (later g (length payload) (drop f payload)))
+
+  pub framed-first : (a : A) → getD (framed first make (chunks f g payload)) 0 a ≡ first (take f payload)
+  unfolding chunks
+  framed-first a = refl
+
+  module _ (some : 0 < g) where
+    pub framed-length : length (framed first make (chunks f g payload)) ≡ count f g (length payload)
+    unfolding chunks
+    framed-length = ap suc (numbered-length make 0 (later g (length payload) (drop f payload))) ∙ chunks-length f g some payload
+
+    pub framed-later : (i : ℕ) (a : A) → 1 + i < count f g (length payload) → getD (framed first make (chunks f g payload)) (suc i) a ≡ make i (take g (drop (f + g * i) payload))
+    unfolding chunks
+    framed-later i a h =
+        let l = later g (length payload) (drop f payload) in
+        let many : suc (length l) ≡ count f g (length payload) = chunks-length f g some payload in
+        numbered-at make 0 l i a (omega arith) ∙ (λ j. make (zero-add i j) (chunks-later f g some payload i j))
+
+-- ---- where a later data field has two bytes more than the first, as over HID and Bluetooth
+pub count-next : (f n : ℕ) → count f (2 + f) n ≡ 1 + (n + 1) / (2 + f)
+count-next f n = by-size (decLe f n)
+  where
+    by-size : Dec (f ≤ n) → count f (2 + f) n ≡ 1 + (n + 1) / (2 + f)
+    by-size (yes p) = let e : n - f + (2 + f - 1) ≡ n + 1 = omega arith in rw e
+    by-size (no p) = ap (λ (d : ℕ). 1 + d) (div-eq-of-lt {n = n - f + (2 + f - 1)} (omega arith) ∙ sym (div-eq-of-lt {n = n + 1} (omega arith)))
+
 pub hid-count : (n : ℕ) → count 57 59 n ≡ 1 + (n + 1) / 59
-hid-count n = omega arith
+hid-count n = count-next 57 n

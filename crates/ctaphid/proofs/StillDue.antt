@@ -8,7 +8,7 @@ use mathlib.Core.Bool.{true, false, true≢false}
 use mathlib.Core.Logic.{_⊎_, inl, inr, ⊎-elim}
 use lib.ListN.{length, take, length-append}
 use Rattle.ctaphid.specs.Packets.{Packet, continuation, read, written}
-use Rattle.ctaphid.specs.Messages.{continuations}
+use Rattle.ctaphid.specs.Messages.{numbered}
 use Rattle.ctaphid.specs.Limits.{timeout}
 use Rattle.ctaphid.specs.Settings.{Settings}
 use Rattle.ctaphid.specs.Receiver.{Transaction, idle, busy, Reception, whole, Turn, channelOf, receive, stillDue}
@@ -62,18 +62,18 @@ abbrev Comes : Transaction → (now : ℕ) → List (List ℕ) → List Event �
 Comes t now fields events = Sent (t .channel) (t .deadline) now (dueNext t fields) events
 
 first-comes : (t : Transaction) (now : ℕ) (field : List ℕ) (rest : List (List ℕ)) (e : Event) (events : List Event) → Comes t now (field ∷ rest) (e ∷ events) → (now ≤ e .time) × (Own t field rest e events ⊎ Another t (field ∷ rest) e events)
-unfolding continuations
+unfolding numbered
 first-comes t now field rest e events w =
     (w .1, ⊎-elim (λ o. inl (record { packet = o .0; enabled = o .1; live = o .2 }, o .3)) inr (w .2))
 
 -- where packets are to come there are events, and where there are events packets are to come
 pub none-due : (t : Transaction) (now : ℕ) (fields : List (List ℕ)) → Comes t now fields [] → length fields ≡ 0
-unfolding continuations
+unfolding numbered
 none-due t now [] w = refl
 none-due t now (field ∷ rest) w = let z : _≡_ {A = ℕ} 0 1 = cc in absurd (omega arith)
 
 pub some-due : (t : Transaction) (now : ℕ) (fields : List (List ℕ)) (e : Event) (events : List Event) → Comes t now fields (e ∷ events) → 0 < length fields
-unfolding continuations
+unfolding numbered
 some-due t now [] e events w = absurd w
 some-due t now (field ∷ rest) e events w = omega arith
 

@@ -3,12 +3,12 @@ use mathlib.Core.Path.{refl}
 use mathlib.Core.List.{flatten}
 use Rattle.ctaphid.specs.Choice.{pick}
 use Rattle.ctaphid.specs.Packets.{channelIn, declaredIn, read, written}
-use Rattle.ctaphid.specs.Messages.{later, chunks, padded, fields, continuations, packets}
+use Rattle.ctaphid.specs.Messages.{later, chunks, padded, fields, numbered, packets}
 use Rattle.ctaphid.specs.Touch.{isSame, isCancel, onSensor, onPacket, onArrival, touchStep}
 use Rattle.ctaphid.specs.WaitRows.{WaitRows}
 
 pub wait-rows : WaitRows
-unfolding flatten pick channelIn declaredIn read written later chunks padded fields continuations packets isSame isCancel onSensor onPacket onArrival touchStep
+unfolding flatten pick channelIn declaredIn read written later chunks padded fields numbered packets isSame isCancel onSensor onPacket onArrival touchStep
 wait-rows =
     record {
       not-yet = refl;

@@ -11,6 +11,7 @@ use Rattle.ctaphid.specs.Commands.{INIT, KEEPALIVE, number}
 use Rattle.ctaphid.specs.Limits.{largest}
 use Rattle.ctaphid.specs.Packets.{Packet, initialization, continuation, byte, channelIn, read}
 use Rattle.ctaphid.specs.Messages.{wire}
+use Rattle.ctaphid.specs.Readers.{told, left, lastly}
 use Rattle.ctaphid.specs.Capabilities.{capabilities}
 use Rattle.ctaphid.specs.Settings.{Settings}
 use Rattle.ctaphid.specs.Receiver.{channelOf, putTogether}
@@ -87,12 +88,10 @@ hear c space s p = pick (eqb (channelOf p) c) (onOwn space s p) (got s ignored)
 
 -- packets one after another: what they are answered, and what is left
 abbrev pub answers : (channel space : ℕ) → Collection → List (List ℕ) → List Heard
-answers c space s [] = []
-answers c space s (p ∷ rest) = hear c space s (read p) .answer ∷ answers c space (hear c space s (read p) .collection) rest
+answers c space = told (λ s p. hear c space s (read p) .collection) (λ s p. hear c space s (read p) .answer)
 
 abbrev pub after : (channel space : ℕ) → Collection → List (List ℕ) → Collection
-after c space s [] = s
-after c space s (p ∷ rest) = after c space (hear c space s (read p) .collection) rest
+after c space = left (λ s p. hear c space s (read p) .collection)
 
 -- ---- the reply to INIT
 
@@ -150,9 +149,7 @@ pub record ReadsInit : Type 0 where
 
 -- each packet but the last waits, and the last is answered so
 abbrev pub atLast : Heard → List (List ℕ) → List Heard
-atLast a [] = []
-atLast a (p ∷ []) = a ∷ []
-atLast a (p ∷ (q ∷ rest)) = waiting ∷ atLast a (q ∷ rest)
+atLast a ps = lastly waiting a ps
 
 -- those of these packets that are the channel's own
 unfoldable pub own : (channel : ℕ) → List (List ℕ) → List (List ℕ)

@@ -6,6 +6,7 @@ pub mod Messages
 pub mod Errors
 pub mod Capabilities
 pub mod Settings
+pub mod Readers
 pub mod Receiver
 pub mod Transport
 pub mod Device

@@ -42,6 +42,15 @@ abbrev pub room : ℕ → ℕ → ℕ → ℕ
 room f g zero = f
 room f g (suc i) = g
 
+-- the first of these in a packet of its own kind; the later ones numbered in ascending order, from k on or from 0
+unfoldable pub numbered : {A : Type 0} → (later : ℕ → List ℕ → A) → (k : ℕ) → List (List ℕ) → List A
+numbered later k [] = []
+numbered later k (chunk ∷ rest) = later k chunk ∷ numbered later (k + 1) rest
+
+abbrev pub framed : {A : Type 0} → (first : List ℕ → A) → (later : ℕ → List ℕ → A) → List (List ℕ) → List A
+framed first later [] = []
+framed first later (chunk ∷ rest) = first chunk ∷ numbered later 0 rest
+
 -- what cutting owes at these sizes
 pub record Cuts (f g : ℕ) : Type 0 where
   -- the chunks one after another are the payload, and so are the data fields, cut at its length
@@ -57,18 +66,12 @@ pub record Cuts (f g : ℕ) : Type 0 where
 -- ---- over HID: data fields of 57 and 59 bytes
 
 -- §11.2.4: continuation packets, numbered in ascending order from k on
-unfoldable pub continuations : (channel k : ℕ) → List (List ℕ) → List Packet
-continuations c k [] = []
-continuations c k (field ∷ rest) = continuation c k field ∷ continuations c (k + 1) rest
+abbrev pub continuations : (channel k : ℕ) → List (List ℕ) → List Packet
+continuations c k fields = numbered (continuation c) k fields
 
--- §11.2.4: an initialization packet, and continuation packets numbered from 0
-abbrev pub packetsOf : (channel command declared : ℕ) → List (List ℕ) → List Packet
-packetsOf c cmd n [] = []
-packetsOf c cmd n (field ∷ rest) = initialization c cmd n field ∷ continuations c 0 rest
-
--- §11.2.4: the packets of a message, and their bytes
+-- §11.2.4: the packets of a message, an initialization packet and continuation packets numbered from 0; and their bytes
 unfoldable pub packets : (channel command : ℕ) → List ℕ → List Packet
-packets c cmd payload = packetsOf c cmd (length payload) (fields 57 59 payload)
+packets c cmd payload = framed (initialization c cmd (length payload)) (continuation c) (fields 57 59 payload)
 
 abbrev pub wire : (channel command : ℕ) → List ℕ → List (List ℕ)
 wire c cmd payload = map written (packets c cmd payload)

@@ -6,10 +6,11 @@ use mathlib.Core.Path.{_≡_, sym, subst}
 use mathlib.Core.List.{List, [], _∷_, _++_, map}
 use lib.ListN.{length, take, drop, replicate, length-take, length-drop, drop-of-length-le}
 use Rattle.ctaphid.specs.Packets.{Packet, initialization, continuation, four, written, read, Bytes, Formed}
-use Rattle.ctaphid.specs.Messages.{later, chunks, padded, fields, continuations, packets, wire}
+use Rattle.ctaphid.specs.Messages.{later, chunks, padded, fields, continuations, numbered, packets, wire}
 use Rattle.ctaphid.specs.Host.{Sendable}
 use Rattle.ctaphid.proofs.Packets.{written-length, read-written}
-use Rattle.ctaphid.proofs.RoundTrip.{padded-length, later-none}
+use Rattle.ctaphid.proofs.RoundTrip.{padded-length}
+use Rattle.ctaphid.proofs.Reassembling.{later-none}
 use Rattle.runs.specs.HostSteps.{Comes, Come}
 
 -- ---- lists of bytes
@@ -104,7 +105,7 @@ parts-declare n (p ∷ rest) h = (part-declares n p (h .0), parts-declare n rest
 module _ (n c : ℕ) (small : c < 2 ^ 32) where
   later-parts : (most : ℕ) (bytes : List ℕ) (k : ℕ) → length bytes ≤ most → 59 * k + length bytes ≤ 128 * 59 → Bytes bytes
       → Parts n (continuations c k (map (padded 59) (later 59 most bytes)))
-  unfolding later continuations
+  unfolding later numbered
   later-parts zero [] k h room b = tt
   later-parts zero (x ∷ xs) k h room b = tt
   later-parts (suc most) [] k h room b = tt
