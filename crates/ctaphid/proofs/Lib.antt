@@ -31,6 +31,8 @@ pub mod Sharp
 pub mod WrongBounds
 pub mod Rows
 pub mod RoundTrip
+pub mod Bluetooth
+pub mod BluetoothRuns
 pub mod InitReplies
 pub mod Interfaces
 pub mod Behind

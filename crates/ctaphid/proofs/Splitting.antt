@@ -102,7 +102,7 @@ module _ (f g n : ℕ) (some : 0 < g) where
       omega arith
 
   -- so there are more bytes than fewer packets hold
-  count-more : (k : ℕ) → 1 + k < count f g n → f + g * k < n
+  pub count-more : (k : ℕ) → 1 + k < count f g n → f + g * k < n
   count-more k h = by-size (decLe n (f + g * k))
     where
       by-size : Dec (n ≤ f + g * k) → f + g * k < n

@@ -13,6 +13,7 @@ pub mod Device
 pub mod Interfaces
 pub mod Touch
 pub mod Host
+pub mod Bluetooth
 pub mod Refusals
 pub mod Rows
 pub mod Demands

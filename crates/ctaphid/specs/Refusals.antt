@@ -6,7 +6,7 @@ use lib.Dec.{ltb}
 use Rattle.ctaphid.specs.Limits.{lastTime}
 
 pub data Refusal : Type 0 where
-  PacketSize ShortBuffer Unsound Time Maximum Index LongPayload Sequence LongReply NotInit Command Vendor : Refusal
+  PacketSize ShortBuffer Unsound Time Maximum Index LongPayload Sequence LongReply NotInit Command Vendor FragmentSize FragmentLength FragmentNumber LongMessage Excess : Refusal
 
 abbrev pub refusalNumber : Refusal → ℕ
 -- the packet slice, read or written, isn't 64 bytes
@@ -33,6 +33,16 @@ refusalNumber NotInit = 11
 refusalNumber Command = 12
 -- set-up with a number that isn't the vendor's, 64 to 127
 refusalNumber Vendor = 13
+-- Bluetooth: a fragment size below 20 or above 512
+refusalNumber FragmentSize = 14
+-- Bluetooth: a fragment too short for its head, or above the size
+refusalNumber FragmentLength = 15
+-- Bluetooth: a wrong number, a continuation with no message begun, or a first fragment inside one
+refusalNumber FragmentNumber = 16
+-- Bluetooth: a declared length above the buffer
+refusalNumber LongMessage = 17
+-- Bluetooth: more data than remains due
+refusalNumber Excess = 18
 
 -- 4, as tests with their number
 abbrev pub untimely : (last time : ℕ) → List (Bool × ℕ)

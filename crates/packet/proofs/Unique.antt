@@ -12,6 +12,7 @@ use Rattle.packet.proofs.Packets.{said-one}
 use Rattle.packet.proofs.process_single_packet as process
 use Rattle.packet.proofs.packet_data as part
 use Rattle.packet.proofs.be32 as be32
+use Rattle.packet.proofs.be16 as be16
 use Rattle.packet.proofs.ProcessedPacket.channel as channel
 use Rattle.packet.proofs.command.CtapHidCommand.from_u8 as from-u8
 use Rattle.packet.proofs.command.CtapHidCommand.is_vendor as is-vendor
@@ -41,6 +42,12 @@ channel-one = record {
 
 pub be32-one : OneOutcome be32.ended (λ M 𝓤. be32.clauses 𝓤) (λ M 𝓤. be32.spec 𝓤)
 be32-one = record {
+  stated = λ M 𝓤 H A mem run. refl;
+  one = λ 𝓤 H A mem run κs a g x y v w. from-facts 𝓤 (λ p q. (p ∙ sym q, refl));
+}
+
+pub be16-one : OneOutcome be16.ended (λ M 𝓤. be16.clauses 𝓤) (λ M 𝓤. be16.spec 𝓤)
+be16-one = record {
   stated = λ M 𝓤 H A mem run. refl;
   one = λ 𝓤 H A mem run κs a g x y v w. from-facts 𝓤 (λ p q. (p ∙ sym q, refl));
 }

@@ -86,7 +86,8 @@ pub fn be32(a: u8, b: u8, c: u8, d: u8) -> u32
     (a as u32) * 0x100_0000 + (b as u32) * 0x1_0000 + (c as u32) * 0x100 + (d as u32)
 }
 
-fn be16(high: u8, low: u8) -> usize
+// Two bytes as a number, the high one first.
+pub fn be16(high: u8, low: u8) -> usize
     ensures { λ r. ⌜ r ≡ high * 0x100 + low ⌝ }
 {
     (high as usize) * 0x100 + (low as usize)

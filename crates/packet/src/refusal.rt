@@ -16,6 +16,11 @@ pub enum Refusal {
     NotInit,
     Command,
     Vendor,
+    FragmentSize,
+    FragmentLength,
+    FragmentNumber,
+    LongMessage,
+    Excess,
 }
 
 impl Refusal {
@@ -43,6 +48,16 @@ impl Refusal {
 
     pub const VENDOR: u8 = 13;
 
+    pub const FRAGMENT_SIZE: u8 = 14;
+
+    pub const FRAGMENT_LENGTH: u8 = 15;
+
+    pub const FRAGMENT_NUMBER: u8 = 16;
+
+    pub const LONG_MESSAGE: u8 = 17;
+
+    pub const EXCESS: u8 = 18;
+
     pub fn number(self) -> u8
         ensures { λ r. ⌜ r ≡ refusalNumber (refusalMeant self) ⌝ }
     {
@@ -59,6 +74,11 @@ impl Refusal {
             Refusal::NotInit => Self::NOT_INIT,
             Refusal::Command => Self::COMMAND,
             Refusal::Vendor => Self::VENDOR,
+            Refusal::FragmentSize => Self::FRAGMENT_SIZE,
+            Refusal::FragmentLength => Self::FRAGMENT_LENGTH,
+            Refusal::FragmentNumber => Self::FRAGMENT_NUMBER,
+            Refusal::LongMessage => Self::LONG_MESSAGE,
+            Refusal::Excess => Self::EXCESS,
         }
     }
 }
