@@ -1,3 +1,4 @@
 pub mod Sound
 pub mod Receiving
 pub mod Sending
+pub mod Unique

@@ -17,9 +17,9 @@ module _ (s : Collection) (space : ℕ) where
       pick-known (λ (b : Bool). b ≡ true → (s .len ≡ 0 → ⊥) → (s .taken < s .len) × (s .len ≤ space) × (s .seq ≤ 127)) (eqb (s .len) 0) _ _
       (λ e h z. absurd (z (eqb-true (s .len) 0 e)))
       (λ e h z.
-          let p = pick-true (ltb (s .taken) (s .len)) _ h in
-          let q = pick-true (leb (s .len) space) _ (p .1) in
-          (ltb-true (s .taken) (s .len) (p .0), leb-true (s .len) space (q .0), leb-true (s .seq) 127 (q .1)))
+      let p = pick-true (ltb (s .taken) (s .len)) _ h in
+      let q = pick-true (leb (s .len) space) _ (p .1) in
+      (ltb-true (s .taken) (s .len) (p .0), leb-true (s .len) space (q .0), leb-true (s .seq) 127 (q .1)))
 
   pub sound-is : isSound s space ≡ true → Sound s space
   sound-is e = record { more = λ z. begun e z .0; room = λ z. begun e z .1; due = λ z. begun e z .2 }

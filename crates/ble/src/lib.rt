@@ -6,12 +6,12 @@ mod soundness;
 mod writing;
 
 pub use command::BleCommand;
+use host::Collection;
 pub use limits::BleLimits;
 pub use reading::read_fragment;
 pub use reading::take_fragment;
 pub use writing::fragment_count;
 pub use writing::write_fragment;
-use host::Collection;
 
 // How many fragments a payload takes.
 pub enum Count {

@@ -126,12 +126,7 @@ fn later(collection: Collection, fragment: &[u8], buffer: &mut [u8]) -> Progress
 }
 
 // Data is added to begun; when all is there the message is handed out, and none is begun. More than was declared leaves the collection as it was.
-fn gather(
-    collection: Collection,
-    begun: Collection,
-    data: &[u8],
-    buffer: &mut [u8],
-) -> Progress
+fn gather(collection: Collection, begun: Collection, data: &[u8], buffer: &mut [u8]) -> Progress
     requires { ⌜ Adds begun (now buffer) ⌝ }
     ensures { λ r. ⌜ reading (r .collection) (r .answer) (now (buffer .exit)) ≡ laid collection (gather (collectionMeant collection (now (buffer .entry))) (begunOf begun (now (buffer .entry))) (now («data» .entry))) (now (buffer .entry)) ⌝ }
 {

@@ -1,3 +1,4 @@
 pub mod Telling
 pub mod TellingWaits
+pub mod TellingFragments
 pub mod Unique

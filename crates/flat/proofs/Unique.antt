@@ -2,6 +2,7 @@
 use mathlib.Core.Path.{refl, sym, ap, _∙_}
 use Rattle.outcome.specs.One.{OneOutcome, from-facts}
 use Rattle.flat.specs.Telling.{Flattened, MainFlattened, HostFlattened, Putting}
+use Rattle.flat.specs.TellingFragments.{Laying}
 use Rattle.flat.proofs.outcome_of as outcome-of
 use Rattle.flat.proofs.running_number as running-number
 use Rattle.flat.proofs.transport_step as transport-step
@@ -16,6 +17,9 @@ use Rattle.flat.proofs.write_packet as write-packet
 use Rattle.flat.proofs.split_message as split-message
 use Rattle.flat.proofs.host_read as host-read
 use Rattle.flat.proofs.init_reply as init-reply
+use Rattle.flat.proofs.fragments.ble_fragment_count as ble-fragment-count
+use Rattle.flat.proofs.fragments.ble_write_fragment as ble-write-fragment
+use Rattle.flat.proofs.fragments.ble_read_fragment as ble-read-fragment
 use Rattle.flat.proofs.waiting.wait_begin as wait-begin
 use Rattle.flat.proofs.waiting.wait_elapsed as wait-elapsed
 use Rattle.flat.proofs.waiting.wait_step as wait-step
@@ -120,4 +124,22 @@ pub wait-step-one : OneOutcome wait-step.ended (λ M 𝓤. wait-step.clauses �
 wait-step-one = record {
   stated = λ M 𝓤 H A mem run. refl;
   one = λ 𝓤 H A mem run κs a g x y v w. from-facts 𝓤 (λ p q. (p ∙ sym q, refl));
+}
+
+pub ble-fragment-count-one : OneOutcome ble-fragment-count.ended (λ M 𝓤. ble-fragment-count.clauses 𝓤) (λ M 𝓤. ble-fragment-count.spec 𝓤)
+ble-fragment-count-one = record {
+  stated = λ M 𝓤 H A mem run. refl;
+  one = λ 𝓤 H A mem run κs a g x y v w. from-facts 𝓤 (λ p q. (p ∙ sym q, refl));
+}
+
+pub ble-write-fragment-one : OneOutcome ble-write-fragment.ended (λ M 𝓤. ble-write-fragment.clauses 𝓤) (λ M 𝓤. ble-write-fragment.spec 𝓤)
+ble-write-fragment-one = record {
+  stated = λ M 𝓤 H A mem run. refl;
+  one = λ 𝓤 H A mem run κs a g x y v w. from-facts 𝓤 (λ p q. (ap (λ (o : Laying). o .outcome) (p ∙ sym q), λ i. (tt, (tt, (tt, (tt, ((p ∙ sym q) i .buffer, tt)))))));
+}
+
+pub ble-read-fragment-one : OneOutcome ble-read-fragment.ended (λ M 𝓤. ble-read-fragment.clauses 𝓤) (λ M 𝓤. ble-read-fragment.spec 𝓤)
+ble-read-fragment-one = record {
+  stated = λ M 𝓤 H A mem run. refl;
+  one = λ 𝓤 H A mem run κs a g x y v w. from-facts 𝓤 (λ p q. (ap (λ (o : HostFlattened). o .left) (p ∙ sym q), λ i. (tt, (tt, (tt, ((p ∙ sym q) i .buffer, tt))))));
 }

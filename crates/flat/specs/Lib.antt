@@ -1,2 +1,3 @@
 pub mod Telling
 pub mod TellingWaits
+pub mod TellingFragments

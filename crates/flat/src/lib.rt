@@ -1,6 +1,10 @@
 // The C boundary by value: every answer as numbers. The exported entries are thin over these.
+mod fragments;
 mod waiting;
 
+pub use fragments::ble_fragment_count;
+pub use fragments::ble_read_fragment;
+pub use fragments::ble_write_fragment;
 use hid::Answer;
 use hid::CtapHid;
 use hid::MainHid;
@@ -57,7 +61,7 @@ impl Kind {
     // A continuation packet: cid, and its number in cmd. Its data begins at byte 5.
     pub const CONTINUATION: u8 = 6;
 
-    // A count, in len.
+    // A count, in len: of packets or fragments, or of the bytes of a fragment.
     pub const COUNT: u8 = 7;
 
     // Host: a packet of another channel, or a continuation with no reply begun.
@@ -66,10 +70,10 @@ impl Kind {
     // Host: a KEEPALIVE, its status byte in cmd.
     pub const KEEPALIVE: u8 = 9;
 
-    // Host: the packet is taken, and more is due.
+    // Host, Bluetooth: the packet or fragment is taken, and more is due.
     pub const WAITING: u8 = 10;
 
-    // Host: a whole reply at the front of the buffer: cmd, len.
+    // Host, Bluetooth: a whole reply or message at the front of the buffer: cmd, len.
     pub const COLLECTED: u8 = 11;
 }
 

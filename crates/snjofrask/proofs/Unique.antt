@@ -4,6 +4,7 @@ use Rattle.outcome.specs.One.{OneOutcome, from-facts}
 use Rattle.flat.specs.declared.waiting.MadeWait.{MadeWait}
 use Rattle.flat.specs.declared.waiting.FlatWait.{FlatWait}
 use Rattle.flat.specs.Telling.{Flattened, MainFlattened, HostFlattened, Putting}
+use Rattle.flat.specs.TellingFragments.{Laying}
 use Rattle.flat.specs.declared.MadeHid.{MadeHid}
 use Rattle.flat.specs.declared.MadeMain.{MadeMain}
 use Rattle.snjofrask.proofs.snjofrask_transport_new as transport-new
@@ -21,6 +22,9 @@ use Rattle.snjofrask.proofs.snjofrask_write_packet as write-packet
 use Rattle.snjofrask.proofs.snjofrask_split_message as split-message
 use Rattle.snjofrask.proofs.snjofrask_host_read as host-read
 use Rattle.snjofrask.proofs.snjofrask_init_reply as init-reply
+use Rattle.snjofrask.proofs.snjofrask_ble_fragment_count as ble-fragment-count
+use Rattle.snjofrask.proofs.snjofrask_ble_write_fragment as ble-write-fragment
+use Rattle.snjofrask.proofs.snjofrask_ble_read_fragment as ble-read-fragment
 
 pub snjofrask-transport-new-one : OneOutcome transport-new.ended (λ M 𝓤. transport-new.clauses 𝓤) (λ M 𝓤. transport-new.spec 𝓤)
 snjofrask-transport-new-one = record {
@@ -110,4 +114,22 @@ pub snjofrask-init-reply-one : OneOutcome init-reply.ended (λ M 𝓤. init-repl
 snjofrask-init-reply-one = record {
   stated = λ M 𝓤 H A mem run. refl;
   one = λ 𝓤 H A mem run κs a g x y v w. from-facts 𝓤 (λ p q. (p ∙ sym q, refl));
+}
+
+pub snjofrask-ble-fragment-count-one : OneOutcome ble-fragment-count.ended (λ M 𝓤. ble-fragment-count.clauses 𝓤) (λ M 𝓤. ble-fragment-count.spec 𝓤)
+snjofrask-ble-fragment-count-one = record {
+  stated = λ M 𝓤 H A mem run. refl;
+  one = λ 𝓤 H A mem run κs a g x y v w. from-facts 𝓤 (λ p q. (p ∙ sym q, refl));
+}
+
+pub snjofrask-ble-write-fragment-one : OneOutcome ble-write-fragment.ended (λ M 𝓤. ble-write-fragment.clauses 𝓤) (λ M 𝓤. ble-write-fragment.spec 𝓤)
+snjofrask-ble-write-fragment-one = record {
+  stated = λ M 𝓤 H A mem run. refl;
+  one = λ 𝓤 H A mem run κs a g x y v w. from-facts 𝓤 (λ p q. (ap (λ (o : Laying). o .outcome) (p ∙ sym q), λ i. (tt, (tt, (tt, (tt, ((p ∙ sym q) i .buffer, tt)))))));
+}
+
+pub snjofrask-ble-read-fragment-one : OneOutcome ble-read-fragment.ended (λ M 𝓤. ble-read-fragment.clauses 𝓤) (λ M 𝓤. ble-read-fragment.spec 𝓤)
+snjofrask-ble-read-fragment-one = record {
+  stated = λ M 𝓤 H A mem run. refl;
+  one = λ 𝓤 H A mem run κs a g x y v w. from-facts 𝓤 (λ p q. (ap (λ (o : HostFlattened). o .left .outcome) (p ∙ sym q), λ i. ((p ∙ sym q) i .left .collection, (tt, (tt, ((p ∙ sym q) i .buffer, tt))))));
 }

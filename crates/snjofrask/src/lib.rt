@@ -16,6 +16,9 @@ ghost use Rattle.packet.specs.Reading.{readingOf};
 ghost use Rattle.host.specs.Reading.{readOf};
 ghost use Rattle.send.specs.Sending.{countOf, writeOf, splitOf};
 ghost use Rattle.touch.specs.Waiting.{beginOf, elapsedOf, stepOf as waitStepOf};
+ghost use Rattle.ble.specs.Writing.{countOf as fragmentsOf, writeOf as fragmentOf};
+ghost use Rattle.ble.specs.Reading.{readOf as bleReadOf};
+ghost use Rattle.flat.specs.TellingFragments.{fragmentsOutcome, laid, laidOf, bleFlatOf};
 ghost use Rattle.flat.specs.TellingWaits.{presenceTold, receivedTold, madeWaitOf, elapsedNumber, flatWaitOf};
 ghost use Rattle.flat.specs.Telling.{isSet, readOutcome, countOutcome, runningNumber, madeOf, mainMadeOf, flat, flatOf, mainFlat, mainFlatOf, put, putOf, hostFlat, hostFlatOf, initOutcomeOf};
 
@@ -210,4 +213,42 @@ pub extern "C" fn snjofrask_init_reply(cmd: u8, payload: &[u8]) -> InitOutcome
     ensures { λ r. ⌜ r ≡ initOutcomeOf (initOf cmd (now (payload .entry))) ⌝ }
 {
     flat::init_reply(cmd, payload)
+}
+
+// ---- Bluetooth
+
+#[no_mangle]
+pub extern "C" fn snjofrask_ble_fragment_count(size: usize, len: usize) -> Outcome
+    ensures { λ r. ⌜ r ≡ fragmentsOutcome (fragmentsOf size len) ⌝ }
+{
+    flat::ble_fragment_count(size, len)
+}
+
+// How many bytes the fragment has, as a count; or refusal 14, 2, 12, 7 or 6, which leaves the buffer as it came.
+#[no_mangle]
+pub extern "C" fn snjofrask_ble_write_fragment(
+    size: usize,
+    cmd: u8,
+    payload: &[u8],
+    index: usize,
+    buffer: &mut [u8],
+) -> Outcome
+    ensures { λ r. ⌜ laid r (now (buffer .exit)) ≡ laidOf (fragmentOf size cmd (now (payload .entry)) index (now (buffer .entry))) ⌝ }
+{
+    flat::ble_write_fragment(size, cmd, payload, index, buffer)
+}
+
+// A fresh collection is all zeros. A fragment that is refused, by 14, 3, 15, 16, 17 or 18, leaves the collection and the buffer as they came.
+#[no_mangle]
+pub extern "C" fn snjofrask_ble_read_fragment(
+    collection: &mut Collection,
+    size: usize,
+    fragment: &[u8],
+    buffer: &mut [u8],
+) -> Outcome
+    ensures { λ r. ⌜ hostFlat (record { collection = now (collection .exit); outcome = r }) (now (buffer .exit)) ≡ bleFlatOf (bleReadOf (now (collection .entry)) size (now (fragment .entry)) (now (buffer .entry))) ⌝ }
+{
+    let progress = flat::ble_read_fragment(*collection, size, fragment, buffer);
+    *collection = progress.collection;
+    progress.outcome
 }
