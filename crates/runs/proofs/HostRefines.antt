@@ -105,16 +105,16 @@ good-of s m h =
     (h .most some, record { long = st .long; within = st .within; below = st .below; bytes = st .bytes ∙ sym n }))
 
 -- the numbers for a collection whose bytes stand in the buffer mean it
-at-front : (payload m : List ℕ) → take (length payload) (front payload m) ≡ payload
+pub at-front : (payload m : List ℕ) → take (length payload) (front payload m) ≡ payload
 at-front payload m = take-at payload (drop (length payload) m) (length payload) refl
 
-begun-back : (b : Begun) (m : List ℕ) → 57 < b .declared → take (length (b .collected)) m ≡ b .collected → collectionMeant (collectionOf (collecting b)) m ≡ collecting b
+pub begun-back : (b : Begun) (m : List ℕ) → 0 < b .declared → take (length (b .collected)) m ≡ b .collected → collectionMeant (collectionOf (collecting b)) m ≡ collecting b
 unfolding collectionMeant pick
 begun-back b m long e =
     let back : collecting (begunOf (collectionOf (collecting b)) m) ≡ collecting b = λ i. collecting (record { command = b .command; declared = b .declared; collected = e i; due = b .due }) in
     simp (ne-eqb (b .declared) 0 (λ z. absurd (omega arith))) back
 
-front-length : (bytes m : List ℕ) → length bytes ≤ length m → length (front bytes m) ≡ length m
+pub front-length : (bytes m : List ℕ) → length bytes ≤ length m → length (front bytes m) ≡ length m
 front-length bytes m h = length-append bytes (drop (length bytes) m) ∙ (ap (λ (k : ℕ). length bytes + k) (length-drop (length bytes) m) ∙ omega arith)
 
 pub none-sound : (space : ℕ) → Sound noneBegun space
@@ -138,7 +138,7 @@ owed s m t (keepalive status) h l = record { refines = record { collection = sym
 owed s m none waiting h l = absurd l
 owed s m (collecting b) waiting h l =
     record {
-      refines = record { collection = begun-back b (front (b .collected) m) (l .1 .long) (at-front (b .collected) m); answer = refl };
+      refines = record { collection = begun-back b (front (b .collected) m) (omega (arith, l .1 .long)) (at-front (b .collected) m); answer = refl };
       sound = record { most = λ z. l .0; stands = λ z. l .1 };
       long = front-length (b .collected) m (omega (arith, l .1 .bytes, l .1 .below, l .1 .within));
     }

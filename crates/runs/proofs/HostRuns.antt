@@ -20,6 +20,14 @@ use Rattle.runs.specs.HostRuns.{HostCall, packetsOf, HostLends, onPacket
 use Rattle.runs.proofs.HostRefines.{read-refines, sound-stays, length-stays, none-sound, none-meant}
 use Rattle.runs.proofs.HostWire.{Declares, Declare, wire-comes, wire-declares}
 
+-- ---- a buffer that is lent as it must be means the same as the one that was left
+pub means : (s : Collection) (left m : List ℕ) → HostLends s left m → collectionMeant s m ≡ collectionMeant s left
+unfolding collectionMeant
+means s left m lends =
+    both-pick (λ (x y : standard.Collection). x ≡ y) (eqb (s .len) 0) _ _ _ _
+    (λ e. refl)
+    (λ e. λ i. collecting (record { command = s .cmd; declared = s .len; collected = lends .kept (eqb-false (s .len) 0 e) i; due = s .seq }))
+
 -- ---- a call, whichever buffer is lent for it as it must be
 module _ (s : Collection) (c : ℕ) (left : List ℕ) (k : HostCall) (h : Sound s (length left)) (lends : HostLends s left (k .buffer)) (comes : Comes (k .packet)) where
   sound : Sound s (length (k .buffer))
@@ -30,19 +38,11 @@ module _ (s : Collection) (c : ℕ) (left : List ℕ) (k : HostCall) (h : Sound 
         record { long = st .long; within = lends .room some; below = st .below; bytes = st .bytes };
   }
 
-  -- it means the same as the one that was left
-  means : collectionMeant s (k .buffer) ≡ collectionMeant s left
-  unfolding collectionMeant
-  means =
-      both-pick (λ (x y : standard.Collection). x ≡ y) (eqb (s .len) 0) _ _ _ _
-      (λ e. refl)
-      (λ e. λ i. collecting (record { command = s .cmd; declared = s .len; collected = lends .kept (eqb-false (s .len) 0 e) i; due = s .seq }))
-
   abbrev heard : standard.Collection → Got
   heard t = hear c (length (k .buffer)) t (read (k .packet))
 
   refines : Refines (onPacket s c k) (heard (collectionMeant s left))
-  refines = subst (λ (t : standard.Collection). Refines (onPacket s c k) (heard t)) means (read-refines s c (k .packet) (k .buffer) sound comes)
+  refines = subst (λ (t : standard.Collection). Refines (onPacket s c k) (heard t)) (means s left (k .buffer) lends) (read-refines s c (k .packet) (k .buffer) sound comes)
 
   stays : Sound (onPacket s c k .progress .collection) (length (onPacket s c k .buffer))
   stays =

@@ -14,3 +14,5 @@ pub mod HostWire
 pub mod HostRefines
 pub mod HostRuns
 pub mod HostCallers
+pub mod FragmentRefines
+pub mod FragmentRuns

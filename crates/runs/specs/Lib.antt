@@ -8,3 +8,4 @@ pub mod KeyShare
 pub mod HostSteps
 pub mod HostRuns
 pub mod HostCallers
+pub mod FragmentRuns
