@@ -33,6 +33,7 @@ pub mod Rows
 pub mod RoundTrip
 pub mod Bluetooth
 pub mod BluetoothRuns
+pub mod BluetoothRows
 pub mod InitReplies
 pub mod Interfaces
 pub mod Behind

@@ -22,6 +22,7 @@ pub mod KeyDemands
 pub mod KeyRows
 pub mod Waits
 pub mod WaitRows
+pub mod BluetoothRows
 pub mod Wrong
 pub mod WrongBounds
 pub mod WrongWaits
