@@ -1,3 +1,4 @@
+pub mod Readers
 pub mod Choice
 pub mod Limits
 pub mod Packets
@@ -6,7 +7,6 @@ pub mod Messages
 pub mod Errors
 pub mod Capabilities
 pub mod Settings
-pub mod Readers
 pub mod Receiver
 pub mod Transport
 pub mod Device

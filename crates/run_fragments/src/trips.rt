@@ -8,7 +8,9 @@ use report::hex;
 use report::text;
 
 pub fn there_and_back() {
-    text(b"there and back: how many fragments, how often number 0 came again, the last one, and what was read\n");
+    text(
+        b"there and back: how many fragments, how often number 0 came again, the last one, and what was read\n",
+    );
     let mut payload = [0u8; 65535];
     count_up(&mut payload);
     send(20, &payload);
