@@ -16,7 +16,7 @@ use Rattle.ctaphid.proofs.Bluetooth.{gather-over, gather-waits, gather-whole, o
 use Rattle.collect.specs.Adding.{front, Adding, added, addOf}
 use Rattle.collect.specs.declared.Added.{Added}
 use Rattle.collect.specs.declared.Added.the-variants as added-is
-use Rattle.collect.proofs.Adding.{add-waits, add-whole}
+use Rattle.collect.proofs.Adding.{add-waits, add-whole, waits-below}
 use Rattle.host.specs.declared.Collection.{Collection}
 use Rattle.host.specs.Meaning.{begunOf, collectionMeant, noneBegun}
 use Rattle.host.specs.Reading.{Adds}
@@ -136,16 +136,6 @@ module _ (s b : Collection) (t : standard.Collection) (m d : List ℕ) (adds : A
           → reading (o .collection) (o .answer) m′ ≡ laid s (gather t (begunOf b m) d) m
       never o k is = gathered o is (ap (λ (p : Progress). reading (p .collection) (p .answer) m′) k)
 
-      -- what waits has no more bytes than were declared
-      pub waits-low : {n : ℕ} → r ≡ added-is.Waiting n → n ≤ b .len
-      waits-low {n} is = by-size (decLe (b .len) (b .taken + length d))
-        where
-          by-size : Dec (b .len ≤ b .taken + length d) → n ≤ b .len
-          by-size (yes h) =
-              let w : r ≡ added-is.Whole = ap (λ (o : Adding). o .answer) (e ∙ add-whole m (b .taken) (b .len) d (adds .taken) (adds .room) h) in
-              let z : _≡_ {A = ℕ} 0 1 = cc in
-              absurd (omega arith)
-          by-size (no h) =
-              let w : r ≡ added-is.Waiting (b .taken + length d) = ap (λ (o : Adding). o .answer) (e ∙ add-waits m (b .taken) (b .len) d (adds .taken) (adds .room) (omega arith)) in
-              let n-is : n ≡ b .taken + length d = cc in
-              omega arith
+      -- what waits has fewer bytes than were declared
+      pub waits-low : {n : ℕ} → r ≡ added-is.Waiting n → n < b .len
+      waits-low is = waits-below m (b .taken) (b .len) d (adds .taken) (adds .room) m′ e is

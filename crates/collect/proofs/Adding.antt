@@ -1,13 +1,15 @@
 -- What `addOf` gives, by its tests, and the buffer that a copy at a place leaves. Assumes nothing.
 use Prim.Native.Nat.{ℕ, _+_, _-_, _≤_, _<_}
 use native.Mathlib.Omega.{arith}
+use native.Mathlib.Decide.{decLe}
 use mathlib.Core.Path.{_≡_, sym, ap, _∙_}
 use mathlib.Core.List.{List, _++_, append-assoc}
 use borrow.Author.Tests.{lt-ltb, le-ltb}
 use lib.ListN.{length, take, drop, length-append}
 use lib.Seq.{length-take-le, take-append-add}
 use Rattle.ctaphid.specs.Choice.{pick}
-use Rattle.collect.specs.Adding.{front, added, addOf}
+use Rattle.collect.specs.Adding.{front, Adding, added, addOf}
+use Rattle.collect.specs.declared.Added.{Added}
 use Rattle.collect.specs.declared.Added.the-variants.{Waiting, Whole, Refused}
 
 -- bytes put at a place, as a front
@@ -42,3 +44,17 @@ module _ (m : List ℕ) (taken declared : ℕ) (field : List ℕ) where
     pub add-whole : declared ≤ length m → declared ≤ taken + length field → addOf m taken declared field ≡ added Whole (front (take declared (take taken m ++ field)) m)
     unfolding addOf pick
     add-whole r l = simp (le-ltb _ _ h, le-ltb _ _ r, le-ltb _ _ l)
+
+    -- what waits has fewer bytes than were declared
+    pub waits-below : declared ≤ length m → {r : Added} (m′ : List ℕ) → added r m′ ≡ addOf m taken declared field → {n : ℕ} → r ≡ Waiting n → n < declared
+    waits-below room {r} m′ e {n} is = by-size (decLe declared (taken + length field))
+      where
+        by-size : Dec (declared ≤ taken + length field) → n < declared
+        by-size (yes l) =
+            let w : r ≡ Whole = ap (λ (o : Adding). o .answer) (e ∙ add-whole room l) in
+            let z : _≡_ {A = ℕ} 0 1 = cc in
+            absurd (omega arith)
+        by-size (no l) =
+            let w : r ≡ Waiting (taken + length field) = ap (λ (o : Adding). o .answer) (e ∙ add-waits room (omega arith)) in
+            let n-is : n ≡ taken + length field = cc in
+            omega arith

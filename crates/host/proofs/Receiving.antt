@@ -19,7 +19,7 @@ use Rattle.packet.specs.declared.ProcessedPacket.the-variants.{InitPacket, Cont
 use Rattle.collect.specs.Adding.{front, Adding, added, addOf}
 use Rattle.collect.specs.declared.Added.{Added}
 use Rattle.collect.specs.declared.Added.the-variants as added-is
-use Rattle.collect.proofs.Adding.{add-waits, add-whole}
+use Rattle.collect.proofs.Adding.{add-waits, add-whole, waits-below}
 use Rattle.host.specs.declared.Collection.{Collection}
 use Rattle.host.specs.declared.Answer.the-variants.{Refused, Ignored, Keepalive, Waiting, Reply}
 use Rattle.host.specs.declared.Progress.{Progress}
@@ -163,16 +163,6 @@ module _ (s : Collection) (m d : List ℕ) (adds : Adds s m) where
 
     -- what waits has fewer bytes than were declared
     pub waits-low : {n : ℕ} → r ≡ added-is.Waiting n → n < s .len
-    waits-low {n} is = by-size (decLe (s .len) (s .taken + length d))
-      where
-        by-size : Dec (s .len ≤ s .taken + length d) → n < s .len
-        by-size (yes h) =
-            let w : r ≡ added-is.Whole = ap (λ (o : Adding). o .answer) (e ∙ add-whole m (s .taken) (s .len) d (adds .taken) (adds .room) h) in
-            let z : _≡_ {A = ℕ} 0 1 = cc in
-            absurd (omega arith)
-        by-size (no h) =
-            let w : r ≡ added-is.Waiting (s .taken + length d) = ap (λ (o : Adding). o .answer) (e ∙ add-waits m (s .taken) (s .len) d (adds .taken) (adds .room) (omega arith)) in
-            let n-is : n ≡ s .taken + length d = cc in
-            omega arith
+    waits-low is = waits-below m (s .taken) (s .len) d (adds .taken) (adds .room) m′ e is
 
 pub ruleset hearing = (yes-got, no-got, yes-not, no-not, left-refused, left-ignored, left-alive, hear-first, hear-later, none-first, none-later, begun-first, begun-later, gathered-waiting, gathered-whole, gathered-refused)

@@ -6,7 +6,7 @@ use report::hex;
 use report::text;
 
 // At 20, with room for 5 bytes and none begun.
-pub fn begins() {
+pub(crate) fn begins() {
     text(b"none begun\n");
     let none = Collection::new();
     read(none, b"");
@@ -35,7 +35,7 @@ pub fn begins() {
 }
 
 // Three of 5 bytes are there, and 7 is due.
-pub fn inside() {
+pub(crate) fn inside() {
     text(b"3 of 5 bytes are there\n");
     let begun = half(5, 3, 0x83, 7);
     read(begun, b"");
@@ -58,7 +58,7 @@ pub fn inside() {
 }
 
 // Each is wrong in one number, beside one that is right there. Sizes out of range come first.
-pub fn unsound() {
+pub(crate) fn unsound() {
     text(b"collections that are not sound, beside those that are\n");
     read(half(5, 5, 0x83, 7), b"\x07");
     read(half(5, 4, 0x83, 7), b"\x07");

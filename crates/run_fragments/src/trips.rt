@@ -7,7 +7,7 @@ use libc::STDOUT_FILENO;
 use report::hex;
 use report::text;
 
-pub fn there_and_back() {
+pub(crate) fn there_and_back() {
     text(
         b"there and back: how many fragments, how often number 0 came again, the last one, and what was read\n",
     );

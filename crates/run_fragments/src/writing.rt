@@ -6,7 +6,7 @@ use libc::STDOUT_FILENO;
 use report::hex;
 use report::text;
 
-pub fn counts() {
+pub(crate) fn counts() {
     text(b"how many fragments, by size and length\n");
     count(20, 0);
     count(20, 17);
@@ -86,7 +86,7 @@ const FORTY: [u8; 40] = [
     40,
 ];
 
-pub fn example() {
+pub(crate) fn example() {
     text(b"40 bytes at 20, in a buffer of 22\n");
     let forty = FORTY;
     for index in 0..4 {
@@ -95,7 +95,7 @@ pub fn example() {
 }
 
 // A head alone; data that fills the first fragment; one byte more.
-pub fn sizes() {
+pub(crate) fn sizes() {
     let forty = FORTY;
     text(b"0, 17 and 18 bytes at 20\n");
     write(20, BleCommand::CANCEL, &forty[..0], 0, &mut [0xEE; 20]);
@@ -106,7 +106,7 @@ pub fn sizes() {
 }
 
 // Each call has all that is wrong with the next one.
-pub fn refusals() {
+pub(crate) fn refusals() {
     let long = [7u8; 65536];
     text(b"the writer's refusals, in order\n");
     write(19, 0x84, &long, 70000, &mut [0xEE; 18]);

@@ -5,7 +5,7 @@ use native.Mathlib.Decide.{decLe, ℕ-discrete}
 use mathlib.Core.Path.{_≡_, refl, sym, ap, subst, _∙_}
 use mathlib.Core.List.{List, [], _++_}
 use mathlib.Core.Bool.{Bool, true, false, not}
-use borrow.Author.Tests.{eqb-true, eqb-false, ltb-false, not-false}
+use borrow.Author.Tests.{ltb-false, not-false}
 use lib.Dec.{eqb, ltb}
 use lib.ListN.{length, take, drop, length-append}
 use lib.Seq.{length-take-le, drop-append-seam}
@@ -17,13 +17,14 @@ use Rattle.ctaphid.proofs.Tests.{pick-known}
 use Rattle.ctaphid.proofs.Bluetooth.{gather-over, gather-waits, gather-whole}
 use Rattle.collect.specs.Adding.{front}
 use Rattle.host.specs.declared.Collection.{Collection}
-use Rattle.host.specs.Meaning.{begunOf, collectionMeant, noneBegun, collectionOf}
+use Rattle.host.specs.Meaning.{collectionMeant, collectionOf}
 use Rattle.ble.specs.declared.Answer.the-variants.{Refused, Waiting, Message}
 use Rattle.ble.specs.Soundness.{Sound, isSound}
 use Rattle.ble.specs.Reading.{Reading, reading, laid, readOf}
 use Rattle.ble.proofs.Sound.{is-sound, sound-is}
+use Rattle.ble.proofs.Receiving.{meant-begun}
 use Rattle.runs.specs.FragmentRuns.{Refines, ReadRefines, SoundStays, Keeps, NothingPast}
-use Rattle.runs.proofs.HostRefines.{at-front, begun-back, front-length, none-meant}
+use Rattle.runs.proofs.HostRefines.{at-front, begun-back, front-length, none-meant, meant-known}
 
 -- ---- what the standard's reader keeps
 abbrev Good : (space : ℕ) → standard.Collection → Type 0
@@ -83,21 +84,12 @@ hear-leads size space t f g = pick-known (To space t) (ltb size (length f)) _ _ 
 
 -- ---- what a sound collection means
 good-of : (s : Collection) (m : List ℕ) → Sound s (length m) → Good (length m) (collectionMeant s m)
-unfolding collectionMeant
 good-of s m h =
-    pick-known (Good (length m)) (eqb (s .len) 0) _ _
-    (λ e. tt)
-    (λ e.
-    let some = eqb-false (s .len) 0 e in
-    let n : length (take (s .taken) m) ≡ s .taken = length-take-le (s .taken) m (omega (arith, h .more some, h .room some)) in
-    (omega (arith, n, h .more some), h .room some, h .due some))
+    meant-known (Good (length m)) s m tt
+    (λ some. (omega (arith, length-take-le (s .taken) m (omega (arith, h .more some, h .room some)), h .more some), h .room some, h .due some))
 
 declared-of : (s : Collection) (m : List ℕ) (n : ℕ) → Declares (collectionMeant s m) n → (s .len ≡ 0 → ⊥) → n ≡ s .len
-unfolding collectionMeant
-declared-of s m n =
-    pick-known (λ (t : standard.Collection). Declares t n → (s .len ≡ 0 → ⊥) → n ≡ s .len) (eqb (s .len) 0) _ _
-    (λ e d z. absurd (z (eqb-true (s .len) 0 e)))
-    (λ e d z. d)
+declared-of s m n d some = subst (λ (t : standard.Collection). Declares t n) (meant-begun s m some) d
 
 -- what is behind a front stays
 past : (bytes m : List ℕ) → drop (length bytes) (front bytes m) ≡ drop (length bytes) m

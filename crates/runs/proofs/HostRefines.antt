@@ -93,13 +93,14 @@ unfolding hear
 hear-leads c space t p g f = pick-known (To space t) _ _ _ (λ e. own-leads space t p g f) (λ e. refl)
 
 -- ---- what a sound collection means
-good-of : (s : Collection) (m : List ℕ) → Sound s (length m) → Good (length m) (collectionMeant s m)
+pub meant-known : (P : standard.Collection → Type 0) (s : Collection) (m : List ℕ) → P none → ((s .len ≡ 0 → ⊥) → P (collecting (begunOf s m))) → P (collectionMeant s m)
 unfolding collectionMeant
+meant-known P s m p q = pick-known P (eqb (s .len) 0) _ _ (λ e. p) (λ e. q (eqb-false (s .len) 0 e))
+
+good-of : (s : Collection) (m : List ℕ) → Sound s (length m) → Good (length m) (collectionMeant s m)
 good-of s m h =
-    pick-known (Good (length m)) (eqb (s .len) 0) _ _
-    (λ e. tt)
-    (λ e.
-    let some = eqb-false (s .len) 0 e in
+    meant-known (Good (length m)) s m tt
+    (λ some.
     let st = h .stands some in
     let n : length (take (s .taken) m) ≡ s .taken = length-take-le (s .taken) m (omega (arith, st .bytes, st .below, st .within)) in
     (h .most some, record { long = st .long; within = st .within; below = st .below; bytes = st .bytes ∙ sym n }))
