@@ -8,9 +8,9 @@ use lib.Seq.{take-all}
 use native.Mathlib.Nat.{div-eq-of-lt, add-div-right, mul-zero, add-zero}
 use Rattle.ctaphid.specs.Choice.{pick, isIn}
 use Rattle.ctaphid.specs.Messages.{later, chunks, numbered}
-use Rattle.ctaphid.specs.Bluetooth.{isSize, isCommand, read, written, fragments, fragmentsWritten, gather, begin, onFragment, hear}
+use Rattle.ctaphid.specs.Bluetooth.{isSize, isCommand, read, written, fragments, fragmentsWritten, gather, begin, onFragment, hear, RoundTrip}
 use Rattle.ctaphid.specs.BluetoothRows.{BluetoothRows}
-use Rattle.ctaphid.proofs.Bluetooth.{wire-first, wire-later, wire-length, cuts-over-bluetooth}
+use Rattle.ctaphid.proofs.Bluetooth.{wire-first, wire-later, wire-length, cuts-over-bluetooth, round-trips}
 
 -- ---- messages by their number of fragments
 one-only : {A : Type 0} (l : List A) (a : A) → length l ≡ 1 → l ≡ getD l 0 a ∷ []
@@ -68,11 +68,16 @@ one-512 payload e =
     wire-first 512 0x81 payload ∙ (λ i. 0x81 ∷ e i / 0x100 ∷ e i % 0x100 ∷ take-all 509 payload (omega arith) i) in
     one-only (fragmentsWritten 512 0x81 payload) [] many ∙ ap (λ (f : List ℕ). f ∷ []) first
 
+back-at : (size : ℕ) (payload : List ℕ) → 20 ≤ size → size ≤ 512 → length payload ≡ 65535 → RoundTrip size 0x81 payload 65535
+back-at size payload small large e =
+    round-trips size 0x81 payload 65535 (record { smallest = small; largest = large; command = omega arith; short = omega arith; fits = omega arith })
+
 pub bluetooth-rows : BluetoothRows
 unfolding pick isIn later chunks numbered isSize isCommand read written fragments gather begin onFragment hear
 bluetooth-rows =
     record {
       sizes = refl;
+      longest = refl;
       commands = refl;
       example = refl;
       read-back = refl;
@@ -85,6 +90,8 @@ bluetooth-rows =
       number-128 = λ cmd payload e. number-at cmd payload e 128 1 (omega arith);
       wrap-26 = λ cmd payload e. number-at cmd payload e 3328 1 (omega arith);
       last = last-20;
+      back-20 = λ payload e. back-at 20 payload (omega arith) (omega arith) e;
+      back-512 = λ payload e. back-at 512 payload (omega arith) (omega arith) e;
       no-bytes = refl;
       one-byte-begins = refl;
       two-bytes-begin = refl;

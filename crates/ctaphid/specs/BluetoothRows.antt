@@ -2,10 +2,10 @@
 use Prim.Native.Nat.{ℕ, _+_, _-_, _*_, _≤_}
 use mathlib.Core.Path.{_≡_}
 use mathlib.Core.List.{List, [], _∷_, map}
-use mathlib.Core.Bool.{Bool, true, false}
-use lib.ListN.{length, take, drop, getD, replicate}
-use Rattle.ctaphid.specs.Host.{Begun, Collection, none, collecting}
-use Rattle.ctaphid.specs.Bluetooth.{isSize, isCommand, fragmentsWritten, refused, waiting, message, Taken, taken, hear, answers}
+use mathlib.Core.Bool.{true, false}
+use lib.ListN.{length, drop, getD, replicate}
+use Rattle.ctaphid.specs.Host.{Collection, none, collecting}
+use Rattle.ctaphid.specs.Bluetooth.{isSize, longestMessage, isCommand, fragmentsWritten, refused, waiting, message, Taken, taken, hear, answers, RoundTrip}
 
 -- 40 bytes, as the standard's own example has them in fragments of 20 (§11.4, 'Framing fragmentation')
 abbrev pub forty : List ℕ
@@ -20,8 +20,9 @@ abbrev pub heard : Collection → List ℕ → Taken
 heard s bytes = hear 20 5 s bytes
 
 pub record BluetoothRows : Type 0 where
-  -- sizes are 20 to 512, and commands these five bytes
+  -- sizes are 20 to 512, the longest message has 65,535 bytes, and commands are these five bytes
   pub sizes : map isSize (19 ∷ 20 ∷ 512 ∷ 513 ∷ []) ≡ false ∷ true ∷ true ∷ false ∷ []
+  pub longest : longestMessage ≡ 65535
   pub commands : map isCommand (0x80 ∷ 0x81 ∷ 0x82 ∷ 0x83 ∷ 0x84 ∷ 0xbd ∷ 0xbe ∷ 0xbf ∷ 0xc0 ∷ 0x01 ∷ []) ≡ false ∷ true ∷ true ∷ true ∷ false ∷ false ∷ true ∷ true ∷ false ∷ false ∷ []
   -- 40 bytes at 20: 17, 19 and 4, the first continuation with number 0, and nothing behind the last byte
   pub example : fragmentsWritten 20 0x81 forty
@@ -43,6 +44,9 @@ pub record BluetoothRows : Type 0 where
   pub number-128 : (cmd : ℕ) (payload : List ℕ) → length payload ≡ 65535 → getD (getD (fragmentsWritten 20 cmd payload) (1 + 128) []) 0 1 ≡ 0
   pub wrap-26 : (cmd : ℕ) (payload : List ℕ) → length payload ≡ 65535 → getD (getD (fragmentsWritten 20 cmd payload) (1 + 26 * 128) []) 0 1 ≡ 0
   pub last : (cmd : ℕ) (payload : List ℕ) → length payload ≡ 65535 → getD (fragmentsWritten 20 cmd payload) 3449 [] ≡ 120 ∷ drop 65529 payload
+  -- and they are given back, at the smallest size and at the largest
+  pub back-20 : (payload : List ℕ) → length payload ≡ 65535 → RoundTrip 20 0x81 payload 65535
+  pub back-512 : (payload : List ℕ) → length payload ≡ 65535 → RoundTrip 512 0x81 payload 65535
   -- fragments of 0 and 2 bytes: too short. One of 1 byte is too short where it begins a message
   pub no-bytes : heard (half 7) [] ≡ taken (half 7) (refused 15)
   pub one-byte-begins : heard (half 7) (0x81 ∷ []) ≡ taken (half 7) (refused 15)
