@@ -170,3 +170,37 @@ snjofrask_init_outcome snjofrask_init_reply(uint8_t cmd, const uint8_t *payload,
     proved_init_reply(&outcome, cmd, payload, payload_len);
     return outcome;
 }
+
+/* ---- Bluetooth */
+
+void proved_ble_fragment_count(proved_outcome *outcome, uint64_t size, uint64_t len);
+void proved_ble_write_fragment(proved_outcome *outcome, uint64_t size, uint8_t cmd, const uint8_t *payload, uint64_t payload_len,
+                               uint64_t index, uint8_t *buffer, uint64_t buffer_len);
+void proved_ble_read_fragment(proved_outcome *outcome, snjofrask_collection *collection, uint64_t size, const uint8_t *fragment,
+                              uint64_t fragment_len, uint8_t *buffer, uint64_t buffer_len);
+
+snjofrask_outcome snjofrask_ble_fragment_count(size_t size, size_t len)
+{
+    proved_outcome outcome;
+
+    proved_ble_fragment_count(&outcome, size, len);
+    return narrowed(outcome);
+}
+
+snjofrask_outcome snjofrask_ble_write_fragment(size_t size, uint8_t cmd, const uint8_t *payload, size_t payload_len,
+                                               size_t index, uint8_t *buffer, size_t buffer_len)
+{
+    proved_outcome outcome;
+
+    proved_ble_write_fragment(&outcome, size, cmd, payload, payload_len, index, buffer, buffer_len);
+    return narrowed(outcome);
+}
+
+snjofrask_outcome snjofrask_ble_read_fragment(snjofrask_collection *collection, size_t size, const uint8_t *fragment,
+                                              size_t fragment_len, uint8_t *buffer, size_t buffer_len)
+{
+    proved_outcome outcome;
+
+    proved_ble_read_fragment(&outcome, collection, size, fragment, fragment_len, buffer, buffer_len);
+    return narrowed(outcome);
+}

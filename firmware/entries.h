@@ -37,7 +37,7 @@ SNJOFRASK_ASSERT(offsetof(proved_outcome, cmd) == 13);
 SNJOFRASK_ASSERT(offsetof(proved_outcome, refusal) == 14);
 SNJOFRASK_ASSERT(offsetof(proved_outcome, spare) == 15);
 
-/* no length is above 7,609, so none is cut */
+/* no length is above 65,535, so none is cut */
 static snjofrask_outcome narrowed(proved_outcome outcome)
 {
     return (snjofrask_outcome){.len = (size_t)outcome.len,

@@ -1,5 +1,5 @@
 /*
- * Snjofrask: CTAPHID, FIDO messages over USB HID in packets of 64 bytes, for C11 and C++17.
+ * Snjofrask: FIDO messages over USB HID in packets of 64 bytes (CTAPHID), and over Bluetooth in fragments, for C11 and C++17.
  * SPDX-License-Identifier: Apache-2.0
  *
  * Link the libsnjofrask.a of your processor. `rt staticlib snjofrask` writes the one for x86-64 (System V), and
@@ -86,9 +86,9 @@ extern "C" {
 /* ---- numbers */
 
 /* Of the library: header and archives belong together. */
-#define SNJOFRASK_VERSION "0.10.0"
+#define SNJOFRASK_VERSION "0.11.0"
 #define SNJOFRASK_VERSION_MAJOR 0
-#define SNJOFRASK_VERSION_MINOR 10
+#define SNJOFRASK_VERSION_MINOR 11
 #define SNJOFRASK_VERSION_PATCH 0
 
 /* Limits: bytes and milliseconds. */
@@ -128,6 +128,18 @@ extern "C" {
 #define SNJOFRASK_CMD_VENDOR_FIRST 0x40
 #define SNJOFRASK_CMD_VENDOR_LAST 0x7F
 
+/* Over Bluetooth: bytes of a fragment, and of a message's payload. */
+#define SNJOFRASK_BLE_SMALLEST_FRAGMENT 20
+#define SNJOFRASK_BLE_LARGEST_FRAGMENT 512
+#define SNJOFRASK_BLE_LARGEST_PAYLOAD 65535
+
+/* Commands there, in the order of CTAP 2.1, section 11.4: the whole byte. MSG is for CTAP2 and for U2F. */
+#define SNJOFRASK_BLE_CMD_PING 0x81
+#define SNJOFRASK_BLE_CMD_KEEPALIVE 0x82
+#define SNJOFRASK_BLE_CMD_MSG 0x83
+#define SNJOFRASK_BLE_CMD_CANCEL 0xBE
+#define SNJOFRASK_BLE_CMD_ERROR 0xBF
+
 /* Errors: the one byte of a reply with command ERROR. */
 #define SNJOFRASK_ERR_INVALID_CMD 0x01
 #define SNJOFRASK_ERR_INVALID_PAR 0x02
@@ -148,18 +160,25 @@ extern "C" {
 
 /* Refusals: the call was wrong, and has altered nothing. 0 is none. */
 #define SNJOFRASK_REFUSAL_PACKET_SIZE 1      /* a packet, read or written, that isn't 64 bytes */
-#define SNJOFRASK_REFUSAL_SHORT_BUFFER 2     /* a message buffer below the maximum, or a reply buffer below 17 bytes */
-#define SNJOFRASK_REFUSAL_UNSOUND 3          /* a state or a collection that makes no sense */
+#define SNJOFRASK_REFUSAL_SHORT_BUFFER 2     /* a message buffer below the maximum, a reply buffer below 17 bytes, or
+                                                Bluetooth: a buffer below the fragment size */
+#define SNJOFRASK_REFUSAL_UNSOUND 3          /* a state or a collection, a host's or Bluetooth's, that makes no sense */
 #define SNJOFRASK_REFUSAL_TIME 4             /* above SNJOFRASK_LAST_TIME_MS, or before an earlier step or a wait's beginning */
 #define SNJOFRASK_REFUSAL_MAXIMUM 5          /* set-up with a maximum above 7,609 */
-#define SNJOFRASK_REFUSAL_INDEX 6            /* a packet index at or past the count */
-#define SNJOFRASK_REFUSAL_LONG_PAYLOAD 7     /* a payload of over 7,609 bytes */
+#define SNJOFRASK_REFUSAL_INDEX 6            /* an index of a packet or a fragment at or past the count */
+#define SNJOFRASK_REFUSAL_LONG_PAYLOAD 7     /* a payload of over 7,609 bytes, or Bluetooth: of over 65,535 */
 /* 8 is not used again. It was for a PING too long to be echoed, and no step can have one. */
 #define SNJOFRASK_REFUSAL_SEQUENCE 9         /* host: a wrong number, or a first packet inside a reply */
 #define SNJOFRASK_REFUSAL_LONG_REPLY 10      /* host: a reply that the buffer can't hold, or a KEEPALIVE not of 1 byte */
 #define SNJOFRASK_REFUSAL_NOT_INIT 11        /* host: not a reply to INIT, or one below 17 or above 7,609 bytes */
-#define SNJOFRASK_REFUSAL_COMMAND 12         /* a command above 127 to be sent */
+#define SNJOFRASK_REFUSAL_COMMAND 12         /* a command above 127 to be sent, or Bluetooth: none of the five */
 #define SNJOFRASK_REFUSAL_VENDOR 13          /* set-up with a vendor command below 64 or above 127 */
+#define SNJOFRASK_REFUSAL_FRAGMENT_SIZE 14   /* Bluetooth: a fragment size below 20 or above 512 */
+#define SNJOFRASK_REFUSAL_FRAGMENT_LENGTH 15 /* Bluetooth: a fragment that is too short for its head, or above the size */
+#define SNJOFRASK_REFUSAL_FRAGMENT_NUMBER 16 /* Bluetooth: a wrong number, a continuation with none begun, or a first fragment
+                                                inside a message */
+#define SNJOFRASK_REFUSAL_LONG_MESSAGE 17    /* Bluetooth: a declared length above the buffer */
+#define SNJOFRASK_REFUSAL_EXCESS 18          /* Bluetooth: more data than remains due */
 
 /* Kinds of outcome, and which fields say something. The others are 0. */
 #define SNJOFRASK_KIND_REFUSED 0             /* refusal */
@@ -169,11 +188,11 @@ extern "C" {
 #define SNJOFRASK_KIND_REPLY 4               /* to be sent: cid, cmd, and len bytes of the reply buffer */
 #define SNJOFRASK_KIND_FIRST 5               /* a first packet: cid, cmd, declared length in len; data from byte 7 on */
 #define SNJOFRASK_KIND_CONTINUATION 6        /* a continuation packet: cid, its number in cmd; data from byte 5 on */
-#define SNJOFRASK_KIND_COUNT 7               /* len */
+#define SNJOFRASK_KIND_COUNT 7               /* len: how many packets or fragments, or how many bytes a fragment has */
 #define SNJOFRASK_KIND_IGNORED 8             /* host: of another channel, or a continuation before a first packet */
 #define SNJOFRASK_KIND_KEEPALIVE 9           /* host: not done yet, status in cmd */
-#define SNJOFRASK_KIND_WAITING 10            /* host: taken, and more is due */
-#define SNJOFRASK_KIND_COLLECTED 11          /* host: a whole reply: cmd, and len bytes of the buffer */
+#define SNJOFRASK_KIND_WAITING 10            /* host, Bluetooth: taken, and more is due */
+#define SNJOFRASK_KIND_COLLECTED 11          /* host, Bluetooth: a whole reply or message: cmd, and len bytes of the buffer */
 
 /* What the touch sensor says. Any other number is taken for FAILED. */
 #define SNJOFRASK_PRESENCE_TIMEOUT 0         /* no touch so far */
@@ -224,7 +243,10 @@ typedef struct snjofrask_device {
     uint64_t wink;
 } snjofrask_device;
 
-/* A host's reply on its way in. All zeros is a fresh one. */
+/* A host's reply on its way in, or a message in fragments over Bluetooth, at either end. All zeros is a fresh one. len: the
+   declared length, and 0 where none is begun. taken: how much of it is there. seq: the number that is due. cmd is a
+   command's number for a host, and over Bluetooth the whole byte: what the one's entry has begun is never passed to the
+   other's. */
 typedef struct snjofrask_collection {
     uint16_t len;
     uint16_t taken;
@@ -557,6 +579,48 @@ snjofrask_outcome snjofrask_host_read(snjofrask_collection *collection, uint32_t
  */
 SNJOFRASK_ENTRY
 snjofrask_init_outcome snjofrask_init_reply(uint8_t cmd, const uint8_t *payload, size_t payload_len);
+
+/* ---- Bluetooth: messages in fragments, for both ends */
+
+/*
+ * CTAP over Bluetooth Low Energy (CTAP 2.1, section 11.4). A message is a command byte and a payload. Its first fragment has
+ * the byte, the payload's length, high byte first, and data; each later one has a number, from 0 to 127 and then from 0 again,
+ * and data. Nothing is padded.
+ *
+ * size is how many bytes a fragment has at most, 20 to 512. The caller chooses it: to a key, by what its characteristic
+ * fidoControlPointLength says, and from a key the link's ATT_MTU less 3.
+ *
+ * There is no state but the collection, and no time: a message that stops halfway is for the caller's own timer. KEEPALIVE,
+ * CANCEL and ERROR are plain messages here, to be sent and read as the others are; what they mean is the caller's.
+ */
+
+/* How many fragments of a size a payload of len bytes takes: COUNT, from 1 to 3,450, or REFUSED by 14 or 7, in this order. */
+SNJOFRASK_ENTRY
+snjofrask_outcome snjofrask_ble_fragment_count(size_t size, size_t len);
+
+/*
+ * Writes fragment number index, from 0 on, of a message to the front of buffer, which has at least size bytes. Those behind
+ * the fragment stay. cmd is one of the five commands, SNJOFRASK_BLE_CMD_PING and the others. Each fragment but the last has
+ * size bytes: give the same size, command and payload for all of them, and raise index from 0 until refusal 6.
+ * COUNT: send the first len bytes of buffer. REFUSED: by 14, 2, 12, 7 or 6, in this order, and buffer is as it came.
+ */
+SNJOFRASK_ENTRY
+snjofrask_outcome snjofrask_ble_write_fragment(size_t size, uint8_t cmd, const uint8_t *payload, size_t payload_len,
+                                               size_t index, uint8_t *buffer, size_t buffer_len);
+
+/*
+ * A fragment that came. A message is put together at the front of buffer, and is at most as long as it. While one is begun
+ * (collection->len is not 0), buffer has at least collection->len bytes, and the first collection->taken of them are as the
+ * call before left them. Nothing else is asked of it, as for a host. Any command byte of 128 or more is taken, and fragments
+ * that aren't full, also without data, as long as no more data comes than was declared. Kinds:
+ *  - WAITING;
+ *  - COLLECTED: the command byte as it came, in cmd, and the payload. The collection is fresh again;
+ *  - REFUSED: by 14, 3, 15, 16, 17 or 18, in this order. collection and buffer are as they came, and a message that is begun
+ *    goes on with the fragment that is due; to give a message up, make the collection all zeros.
+ */
+SNJOFRASK_ENTRY
+snjofrask_outcome snjofrask_ble_read_fragment(snjofrask_collection *collection, size_t size, const uint8_t *fragment,
+                                              size_t fragment_len, uint8_t *buffer, size_t buffer_len);
 
 /* ---- a key with two interfaces, main and vendor: the entries of libsnjofrask_key.a */
 

@@ -1,10 +1,12 @@
 //! The bindings as firmware has them: no library but core, no allocator, no C library. A broadcast INIT goes through a device and, with the
-//! feature for it, through each interface of a key; the program ends with 0 if the replies are right. tests/bindings builds and runs it.
+//! feature for it, through each interface of a key, and a message over Bluetooth; the program ends with 0 if the replies are right and the message
+//! returns. tests/bindings builds and runs it.
 #![no_std]
 #![no_main]
 
 use core::arch::{asm, global_asm};
 use core::panic::PanicInfo;
+use snjofrask::ble::{Command, Fragments, Reader};
 use snjofrask::{CHANNEL_BROADCAST, CtapHid, CtapHidCommand, MainHid, Message, Processed, Refusal};
 #[cfg(feature = "vendor_hid")]
 use snjofrask::{Key, Transport};
@@ -23,8 +25,8 @@ global_asm!(
 );
 
 extern "C" fn main() -> ! {
-    let is_welcomed = device_welcomes() && key_welcomes();
-    exit(if is_welcomed { 0 } else { 1 })
+    let is_right = device_welcomes() && key_welcomes() && fragments_return() == Ok(true);
+    exit(if is_right { 0 } else { 1 })
 }
 
 const INIT: Message = Message {
@@ -70,6 +72,20 @@ fn key_welcomes() -> bool {
             .all(|packet| is_welcome(key.process_hid_packet(0, &packet, transport)))
     };
     is_welcomed_on(Transport::MainHid) && is_welcomed_on(Transport::VendorHid)
+}
+
+fn fragments_return() -> Result<bool, Refusal> {
+    let (mut buffer, mut message) = ([0; 20], [0; 40]);
+    let payload = WELCOME.payload;
+    let mut fragments = Fragments::new(20, Command::Msg, payload)?;
+    let mut reader = Reader::new(&mut message);
+    let mut is_returned = false;
+    while let Some(fragment) = fragments.next(&mut buffer)? {
+        if let Some(message) = reader.take_fragment(20, fragment)? {
+            is_returned = message.cmd == Command::Msg.byte() && message.payload == payload;
+        }
+    }
+    Ok(is_returned)
 }
 
 #[cfg(target_arch = "aarch64")]

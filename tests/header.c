@@ -698,6 +698,9 @@ static void init_replies(void)
 
 /* ---- buffers that are lent anew at every call */
 
+/* The longest message over Bluetooth, with what is behind it: the one long buffer that a board has room for. */
+static uint8_t large[SNJOFRASK_BLE_LARGEST_PAYLOAD + 600];
+
 /* the device's maximum, and no byte more */
 #define LENT_SIZE 1024
 
@@ -837,7 +840,7 @@ static void highest_lengths(void)
 
 static void lengths_to_a_state(void)
 {
-    static uint8_t long_message[65536];
+    uint8_t *const long_message = large;
     static uint8_t long_reply[256];
     snjofrask_device device;
     snjofrask_transport transport;
@@ -863,7 +866,7 @@ static void lengths_to_a_state(void)
     put(1, SNJOFRASK_CMD_PING, 8, 0);
     CHECK(is(snjofrask_host_read(&collection, 1, packet, 64, long_message, 65536), SNJOFRASK_KIND_COLLECTED, 0, SNJOFRASK_CMD_PING, 8));
     /* and so is a list, whose last number is another */
-    memset(long_message, 127, sizeof long_message);
+    memset(long_message, 127, 65536);
     long_message[255] = 64;
     long_message[65535] = 65;
     CHECK(is_set_up(long_message, 256, 0x8000000000000001) && is_set_up(long_message, 65536, 0x8000000000000003));
@@ -905,6 +908,450 @@ static void channels_and_commands(void)
     CHECK(memcmp(packet, front, sizeof front) == 0);
     CHECK(is(snjofrask_host_read(&collection, 0x345678, packet, 64, message, 57), SNJOFRASK_KIND_IGNORED, 0, 0, 0));
     CHECK(is(snjofrask_host_read(&collection, 0x92345678, packet, 64, message, 57), SNJOFRASK_KIND_COLLECTED, 0, SNJOFRASK_CMD_PING, 1));
+}
+
+/* ---- Bluetooth */
+
+/* Bytes behind what a call is lent, and within it behind what it may write. */
+#define GUARD 16
+
+/* A message's fragment, and as much behind it. */
+static uint8_t fragment[SNJOFRASK_BLE_LARGEST_FRAGMENT + GUARD];
+
+static const uint8_t ble_commands[] = {SNJOFRASK_BLE_CMD_PING, SNJOFRASK_BLE_CMD_KEEPALIVE, SNJOFRASK_BLE_CMD_MSG,
+                                       SNJOFRASK_BLE_CMD_CANCEL, SNJOFRASK_BLE_CMD_ERROR};
+
+/* no collection that is begun */
+static const snjofrask_collection none_begun = {0, 0, 0, 0};
+/* one of 100 bytes, of which 17 are there */
+static const snjofrask_collection one_begun = {100, 17, SNJOFRASK_BLE_CMD_MSG, 5};
+
+static int are_alike(snjofrask_collection one, snjofrask_collection two)
+{
+    return memcmp(&one, &two, sizeof one) == 0;
+}
+
+/* Of a message whose bytes are known by their place, all that are from one place to another. */
+static uint8_t byte_at(size_t place)
+{
+    return (uint8_t)(place % 251);
+}
+
+static int is_message(const uint8_t *bytes, size_t from, size_t to)
+{
+    for (size_t place = from; place < to; place++)
+        if (bytes[place - from] != byte_at(place))
+            return 0;
+    return 1;
+}
+
+static void fill_large(size_t len)
+{
+    for (size_t place = 0; place < len; place++)
+        large[place] = byte_at(place);
+    memset(large + len, 0xEE, GUARD);
+}
+
+/* Whether fragment is this one: its head, the data from one place to another, and behind them what was there. */
+static int is_fragment(size_t size, uint8_t cmd, size_t len, size_t index, size_t from, size_t to)
+{
+    const uint8_t first[] = {cmd, (uint8_t)(len >> 8), (uint8_t)(len & 0xFF)};
+    const uint8_t later[] = {(uint8_t)((index - 1) & 0x7F)};
+    const size_t head = index == 0 ? sizeof first : sizeof later;
+    const size_t written = head + to - from;
+
+    return memcmp(fragment, index == 0 ? first : later, head) == 0 && is_message(fragment + head, from, to) &&
+           all_are(fragment + written, size + GUARD - written, 0xEE);
+}
+
+/* Whether the message at large is written in the fragments that it has, in buffers of the size or more, and read in a buffer of just its
+   length. There is no room for it twice: what a fragment has is spoilt in it, and then read back. */
+static int goes_and_returns(size_t size, uint8_t cmd, size_t len)
+{
+    snjofrask_collection collection = none_begun;
+    size_t index = 0, from = 0;
+    int holds = 1;
+
+    fill_large(len);
+    do {
+        const size_t room = size - (index == 0 ? 3 : 1);
+        const size_t to = len - from < room ? len : from + room;
+        const size_t written = size - room + to - from;
+        const snjofrask_collection begun = {(uint16_t)len, (uint16_t)to, cmd, (uint8_t)(index & 0x7F)};
+
+        memset(fragment, 0xEE, size + GUARD);
+        holds &= is(snjofrask_ble_write_fragment(size, cmd, large, len, index, fragment, size + index % GUARD), SNJOFRASK_KIND_COUNT, 0, 0,
+                    written) && is_fragment(size, cmd, len, index, from, to);
+        for (; from < to; from++)
+            large[from] = (uint8_t)~large[from];
+        if (to < len)
+            holds &= is(snjofrask_ble_read_fragment(&collection, size, fragment, written, large, len), SNJOFRASK_KIND_WAITING, 0, 0, 0) &&
+                     are_alike(collection, begun);
+        else
+            holds &= is(snjofrask_ble_read_fragment(&collection, size, fragment, written, large, len), SNJOFRASK_KIND_COLLECTED, 0, cmd, len) &&
+                     are_alike(collection, none_begun);
+        index++;
+    } while (from < len);
+    return holds && is_message(large, 0, len) && all_are(large + len, GUARD, 0xEE) &&
+           is(snjofrask_ble_fragment_count(size, len), SNJOFRASK_KIND_COUNT, 0, 0, index) &&
+           is_refused(snjofrask_ble_write_fragment(size, cmd, large, len, index, fragment, size), SNJOFRASK_REFUSAL_INDEX);
+}
+
+/* At each size: none, the end of the first fragment and of the second, and at some sizes where the numbers begin again. */
+static void fragments_return(void)
+{
+    for (size_t size = SNJOFRASK_BLE_SMALLEST_FRAGMENT; size <= SNJOFRASK_BLE_LARGEST_FRAGMENT; size++) {
+        const uint8_t cmd = ble_commands[size % sizeof ble_commands];
+
+        CHECK(goes_and_returns(size, cmd, 0) && goes_and_returns(size, cmd, 1));
+        CHECK(goes_and_returns(size, cmd, size - 4) && goes_and_returns(size, cmd, size - 3) && goes_and_returns(size, cmd, size - 2));
+        CHECK(goes_and_returns(size, cmd, 2 * size - 4) && goes_and_returns(size, cmd, 2 * size - 3));
+        if (size % 41 == 20)
+            for (size_t more = 0; more < 3; more++) {
+                const size_t len = size - 3 + 128 * (size - 1) + more * (size - 1) / 2;
+
+                CHECK(goes_and_returns(size, cmd, len < SNJOFRASK_BLE_LARGEST_PAYLOAD ? len : SNJOFRASK_BLE_LARGEST_PAYLOAD - more));
+            }
+    }
+}
+
+static void longest_message(void)
+{
+    int wraps = 0;
+
+    CHECK(is(snjofrask_ble_fragment_count(20, SNJOFRASK_BLE_LARGEST_PAYLOAD), SNJOFRASK_KIND_COUNT, 0, 0, 3450));
+    CHECK(is(snjofrask_ble_fragment_count(512, SNJOFRASK_BLE_LARGEST_PAYLOAD), SNJOFRASK_KIND_COUNT, 0, 0, 129));
+    CHECK(goes_and_returns(20, SNJOFRASK_BLE_CMD_MSG, SNJOFRASK_BLE_LARGEST_PAYLOAD));
+    CHECK(goes_and_returns(512, SNJOFRASK_BLE_CMD_MSG, SNJOFRASK_BLE_LARGEST_PAYLOAD));
+    for (size_t index = 2; index < 3450; index++) {
+        CHECK(snjofrask_ble_write_fragment(20, SNJOFRASK_BLE_CMD_MSG, large, SNJOFRASK_BLE_LARGEST_PAYLOAD, index, fragment, 20).len ==
+              (index < 3449 ? 20 : 7));
+        wraps += fragment[0] == 0;
+    }
+    CHECK(wraps == 26);
+}
+
+/* Whether this is refused so, and the buffer is as it came, with what is behind it. */
+static int is_not_written(size_t size, uint8_t cmd, size_t len, size_t index, size_t buffer_len, int refusal)
+{
+    memset(fragment, 0xEE, sizeof fragment);
+    return is_refused(snjofrask_ble_write_fragment(size, cmd, large, len, index, fragment, buffer_len), refusal) &&
+           all_are(fragment, sizeof fragment, 0xEE);
+}
+
+/* each in front of the next */
+static void writing_refusals(void)
+{
+    static const size_t sizes[] = {0, 1, 3, 19, 513, 65536 + 20, HIGH + 20, (size_t)-1};
+    const size_t longest = SNJOFRASK_BLE_LARGEST_PAYLOAD;
+
+    for (size_t i = 0; i < sizeof sizes / sizeof sizes[0]; i++) {
+        CHECK(is_refused(snjofrask_ble_fragment_count(sizes[i], 0), SNJOFRASK_REFUSAL_FRAGMENT_SIZE));
+        CHECK(is_refused(snjofrask_ble_fragment_count(sizes[i], longest + 1), SNJOFRASK_REFUSAL_FRAGMENT_SIZE));
+        CHECK(is_not_written(sizes[i], 0, longest + 1, 3450, 0, SNJOFRASK_REFUSAL_FRAGMENT_SIZE));
+        CHECK(is_not_written(sizes[i], SNJOFRASK_BLE_CMD_MSG, 1, 0, 512, SNJOFRASK_REFUSAL_FRAGMENT_SIZE));
+    }
+    for (size_t size = 20; size <= 512; size += 41) {
+        CHECK(is_refused(snjofrask_ble_fragment_count(size, longest + 1), SNJOFRASK_REFUSAL_LONG_PAYLOAD));
+        CHECK(is_refused(snjofrask_ble_fragment_count(size, HIGH), SNJOFRASK_REFUSAL_LONG_PAYLOAD));
+        CHECK(is_not_written(size, 0, longest + 1, 3450, 0, SNJOFRASK_REFUSAL_SHORT_BUFFER));
+        CHECK(is_not_written(size, 0, longest + 1, 3450, size - 1, SNJOFRASK_REFUSAL_SHORT_BUFFER));
+        /* also where the fragment would have room */
+        CHECK(is_not_written(size, SNJOFRASK_BLE_CMD_MSG, 1, 0, size - 1, SNJOFRASK_REFUSAL_SHORT_BUFFER));
+        CHECK(is_not_written(size, 0, longest + 1, 3450, size, SNJOFRASK_REFUSAL_COMMAND));
+        CHECK(is_not_written(size, SNJOFRASK_BLE_CMD_MSG, longest + 1, 3450, size, SNJOFRASK_REFUSAL_LONG_PAYLOAD));
+        CHECK(is_not_written(size, SNJOFRASK_BLE_CMD_MSG, HIGH + 1, 0, size, SNJOFRASK_REFUSAL_LONG_PAYLOAD));
+        CHECK(is_not_written(size, SNJOFRASK_BLE_CMD_MSG, 0, 1, size, SNJOFRASK_REFUSAL_INDEX));
+        CHECK(is_not_written(size, SNJOFRASK_BLE_CMD_MSG, size - 3, 1, size, SNJOFRASK_REFUSAL_INDEX));
+        CHECK(is_not_written(size, SNJOFRASK_BLE_CMD_MSG, size - 2, 2, size, SNJOFRASK_REFUSAL_INDEX));
+        /* every bit of an index counts */
+        CHECK(is_not_written(size, SNJOFRASK_BLE_CMD_MSG, 1, 256, size, SNJOFRASK_REFUSAL_INDEX));
+        CHECK(is_not_written(size, SNJOFRASK_BLE_CMD_MSG, 1, 65536, size, SNJOFRASK_REFUSAL_INDEX));
+        CHECK(is_not_written(size, SNJOFRASK_BLE_CMD_MSG, 1, HIGH, size, SNJOFRASK_REFUSAL_INDEX));
+    }
+    for (int cmd = 0; cmd < 256; cmd++) {
+        int is_one = 0;
+
+        for (size_t i = 0; i < sizeof ble_commands; i++)
+            is_one |= ble_commands[i] == cmd;
+        if (is_one)
+            CHECK(goes_and_returns(20, (uint8_t)cmd, 18));
+        else
+            CHECK(is_not_written(20, (uint8_t)cmd, 18, 0, 20, SNJOFRASK_REFUSAL_COMMAND));
+    }
+    /* a long buffer is long, though of its last 16 bits none is set */
+    memset(large, 0xEE, 65536);
+    CHECK(is(snjofrask_ble_write_fragment(20, SNJOFRASK_BLE_CMD_PING, payload, 1, 0, large, 65536), SNJOFRASK_KIND_COUNT, 0, 0, 4));
+    CHECK(large[3] == payload[0] && all_are(large + 4, 65536 - 4, 0xEE));
+}
+
+/* fragment: these bytes */
+static void put_fragment(uint8_t first, size_t declared, size_t data)
+{
+    size_t head = 1;
+
+    fragment[0] = first;
+    if (first >= 0x80) {
+        fragment[1] = (uint8_t)(declared >> 8);
+        fragment[2] = (uint8_t)(declared & 0xFF);
+        head = 3;
+    }
+    for (size_t i = 0; i < data; i++)
+        fragment[head + i] = byte_at(i);
+}
+
+/* A fragment of so many bytes at size 20, read in a buffer of so many. */
+static snjofrask_outcome read_fragment(snjofrask_collection *collection, size_t fragment_len, size_t buffer_len)
+{
+    return snjofrask_ble_read_fragment(collection, 20, fragment, fragment_len, large, buffer_len);
+}
+
+/* Whether it is refused so, at any size, and collection and buffer are as they came, with what is behind it. */
+static int is_not_read(snjofrask_collection came, size_t size, size_t fragment_len, size_t buffer_len, int refusal)
+{
+    snjofrask_collection left = came;
+
+    memset(large, 0xEE, 600);
+    return is_refused(snjofrask_ble_read_fragment(&left, size, fragment, fragment_len, large, buffer_len), refusal) &&
+           are_alike(left, came) && all_are(large, 600, 0xEE);
+}
+
+/* Whether so many bytes at size 20 and a buffer of 100 are refused so, with none begun and inside a message. */
+static int is_never_read(size_t fragment_len, int refusal)
+{
+    return is_not_read(none_begun, 20, fragment_len, 100, refusal) && is_not_read(one_begun, 20, fragment_len, 100, refusal);
+}
+
+static void fragment_sizes_and_lengths(void)
+{
+    static const size_t sizes[] = {0, 1, 3, 19, 513, 65536 + 20, HIGH + 20, (size_t)-1};
+    const snjofrask_collection unsound = {100, 100, SNJOFRASK_BLE_CMD_MSG, 5};
+
+    put_fragment(SNJOFRASK_BLE_CMD_MSG, 1, 1);
+    for (size_t i = 0; i < sizeof sizes / sizeof sizes[0]; i++) {
+        CHECK(is_not_read(unsound, sizes[i], 0, 100, SNJOFRASK_REFUSAL_FRAGMENT_SIZE));
+        CHECK(is_not_read(none_begun, sizes[i], 4, 100, SNJOFRASK_REFUSAL_FRAGMENT_SIZE));
+    }
+    CHECK(is_not_read(unsound, 20, 0, 100, SNJOFRASK_REFUSAL_UNSOUND) && is_not_read(unsound, 512, 513, 100, SNJOFRASK_REFUSAL_UNSOUND));
+
+    /* too short for its head: none of it, or one or two bytes of what begins a message */
+    CHECK(is_never_read(0, SNJOFRASK_REFUSAL_FRAGMENT_LENGTH));
+    for (int first = 0x80; first < 256; first++) {
+        put_fragment((uint8_t)first, 0, 0);
+        CHECK(is_never_read(1, SNJOFRASK_REFUSAL_FRAGMENT_LENGTH) && is_never_read(2, SNJOFRASK_REFUSAL_FRAGMENT_LENGTH));
+    }
+    /* above the size: in front of a wrong number, a long message and data that isn't due */
+    for (size_t size = 20; size <= 512; size += 41) {
+        put_fragment(7, 0, size);
+        CHECK(is_not_read(none_begun, size, size + 1, 100, SNJOFRASK_REFUSAL_FRAGMENT_LENGTH));
+        CHECK(is_not_read(one_begun, size, size + 1, 100, SNJOFRASK_REFUSAL_FRAGMENT_LENGTH));
+        CHECK(is_not_read(none_begun, size, size, 100, SNJOFRASK_REFUSAL_FRAGMENT_NUMBER));
+        CHECK(is_not_read(one_begun, size, size, 100, SNJOFRASK_REFUSAL_FRAGMENT_NUMBER));
+        put_fragment(SNJOFRASK_BLE_CMD_MSG, 101, size - 2);
+        CHECK(is_not_read(none_begun, size, size + 1, 100, SNJOFRASK_REFUSAL_FRAGMENT_LENGTH));
+        CHECK(is_not_read(one_begun, size, size + 1, 100, SNJOFRASK_REFUSAL_FRAGMENT_LENGTH));
+        CHECK(is_not_read(none_begun, size, size, 100, SNJOFRASK_REFUSAL_LONG_MESSAGE));
+    }
+    put_fragment(SNJOFRASK_BLE_CMD_MSG, 1, 1);
+    CHECK(is_never_read(256 + 4, SNJOFRASK_REFUSAL_FRAGMENT_LENGTH) && is_never_read(65536 + 4, SNJOFRASK_REFUSAL_FRAGMENT_LENGTH));
+    CHECK(is_never_read(HIGH + 4, SNJOFRASK_REFUSAL_FRAGMENT_LENGTH));
+}
+
+/* Whether a collection is refused, whatever comes, in a buffer of so many bytes. */
+static int is_unsound_collection(snjofrask_collection collection, size_t buffer_len)
+{
+    int holds = 1;
+
+    put_fragment(collection.seq & 0x7F, 0, 1);
+    holds &= is_not_read(collection, 20, 2, buffer_len, SNJOFRASK_REFUSAL_UNSOUND);
+    put_fragment(SNJOFRASK_BLE_CMD_MSG, 1, 1);
+    return holds && is_not_read(collection, 20, 4, buffer_len, SNJOFRASK_REFUSAL_UNSOUND);
+}
+
+/* Whether one takes the byte that is due, at its place, and nothing else is altered but the number. */
+static int takes_a_byte(snjofrask_collection collection, size_t buffer_len)
+{
+    snjofrask_collection next = collection;
+    snjofrask_outcome outcome;
+    int holds;
+
+    memset(large, 0xEE, buffer_len + GUARD);
+    put_fragment(collection.seq, 0, 0);
+    fragment[1] = 0x11;
+    outcome = read_fragment(&collection, 2, buffer_len);
+    holds = large[next.taken] == 0x11;
+    large[next.taken] = 0xEE;
+    next.taken++;
+    next.seq = (uint8_t)((next.seq + 1) & 0x7F);
+    holds &= all_are(large, buffer_len + GUARD, 0xEE);
+    if (next.taken == next.len)
+        return holds && is(outcome, SNJOFRASK_KIND_COLLECTED, 0, next.cmd, next.len) && are_alike(collection, none_begun);
+    return holds && is(outcome, SNJOFRASK_KIND_WAITING, 0, 0, 0) && are_alike(collection, next);
+}
+
+static snjofrask_collection begun_with(uint16_t len, uint16_t taken, uint8_t seq)
+{
+    snjofrask_collection collection = one_begun;
+
+    collection.len = len;
+    collection.taken = taken;
+    collection.seq = seq;
+    return collection;
+}
+
+/* Sound: fewer bytes taken than declared, no more declared than the buffer has, and a number up to 127. */
+static void unsound_collections(void)
+{
+    CHECK(takes_a_byte(begun_with(100, 17, 5), 100) && takes_a_byte(begun_with(100, 0, 5), 101));
+    for (uint16_t taken = 0; taken < 300; taken++)
+        CHECK(taken < 100 ? takes_a_byte(begun_with(100, taken, 5), 100) : is_unsound_collection(begun_with(100, taken, 5), 100));
+    for (int seq = 0; seq < 256; seq++)
+        CHECK(seq < 128 ? takes_a_byte(begun_with(100, 17, (uint8_t)seq), 100) : is_unsound_collection(begun_with(100, 17, (uint8_t)seq), 100));
+    for (size_t buffer_len = 0; buffer_len < 300; buffer_len++)
+        CHECK(buffer_len < 100 ? is_unsound_collection(one_begun, buffer_len) : takes_a_byte(one_begun, buffer_len));
+    CHECK(is_unsound_collection(begun_with(1, 1, 0), 100) && is_unsound_collection(begun_with(1, 0xFFFF, 0), 100));
+    CHECK(is_unsound_collection(begun_with(0xFFFF, 0xFFFF, 0), 0xFFFF) && is_unsound_collection(begun_with(0xFFFF, 0, 0), 0xFFFE));
+    CHECK(takes_a_byte(begun_with(0xFFFF, 0xFFFE, 127), 0xFFFF) && takes_a_byte(begun_with(0xFFFF, 0, 0), 0xFFFF));
+    /* every bit of what is taken counts */
+    for (int bit = 7; bit < 16; bit++)
+        CHECK(is_unsound_collection(begun_with(100, (uint16_t)(17 | 1 << bit), 5), 100));
+}
+
+/* With a length of 0 none is begun, whatever else stands there: a refused call leaves it, and a message after it leaves zeros. */
+static void none_begun_of_others(void)
+{
+    const snjofrask_collection other = {0, 0xFFFF, 0xFF, 0xFF};
+    snjofrask_collection collection = other;
+
+    put_fragment(0x7F, 0, 1);
+    CHECK(is_not_read(other, 20, 2, 0, SNJOFRASK_REFUSAL_FRAGMENT_NUMBER));
+    put_fragment(SNJOFRASK_BLE_CMD_PING, 0, 0);
+    CHECK(is(read_fragment(&collection, 3, 0), SNJOFRASK_KIND_COLLECTED, 0, SNJOFRASK_BLE_CMD_PING, 0) && are_alike(collection, none_begun));
+    collection = other;
+    put_fragment(SNJOFRASK_BLE_CMD_PING, 4, 4);
+    CHECK(is(read_fragment(&collection, 7, 4), SNJOFRASK_KIND_COLLECTED, 0, SNJOFRASK_BLE_CMD_PING, 4) && are_alike(collection, none_begun));
+    collection = other;
+    CHECK(is(read_fragment(&collection, 6, 4), SNJOFRASK_KIND_WAITING, 0, 0, 0));
+    CHECK(collection.len == 4 && collection.taken == 3 && collection.cmd == SNJOFRASK_BLE_CMD_PING && collection.seq == 0);
+}
+
+/* Any number but the one that is due, and whatever begins a message inside one, though it would be refused for its length too. */
+static void wrong_fragment_numbers(void)
+{
+    for (int first = 0; first < 256; first++) {
+        put_fragment((uint8_t)first, 101, 5);
+        if (first < 128)
+            CHECK(is_not_read(none_begun, 20, 6, 100, SNJOFRASK_REFUSAL_FRAGMENT_NUMBER));
+        if (first != 5) {
+            CHECK(is_not_read(one_begun, 20, 6, 100, SNJOFRASK_REFUSAL_FRAGMENT_NUMBER));
+            /* in front of data that isn't due */
+            CHECK(is_not_read(begun_with(18, 17, 5), 20, 6, 100, SNJOFRASK_REFUSAL_FRAGMENT_NUMBER));
+        }
+    }
+    /* a continuation of one byte has its head */
+    put_fragment(0, 0, 0);
+    CHECK(is_never_read(1, SNJOFRASK_REFUSAL_FRAGMENT_NUMBER));
+    /* no data is declared, and some is there */
+    put_fragment(SNJOFRASK_BLE_CMD_MSG, 0, 1);
+    CHECK(is_not_read(one_begun, 20, 4, 100, SNJOFRASK_REFUSAL_FRAGMENT_NUMBER));
+}
+
+static void long_messages_and_excess(void)
+{
+    for (size_t declared = 1; declared < 600; declared++) {
+        put_fragment(SNJOFRASK_BLE_CMD_MSG, declared, 5);
+        CHECK(is_not_read(none_begun, 20, 3, declared - 1, SNJOFRASK_REFUSAL_LONG_MESSAGE));
+        CHECK(is_not_read(none_begun, 20, 8, declared - 1, SNJOFRASK_REFUSAL_LONG_MESSAGE));
+    }
+    put_fragment(SNJOFRASK_BLE_CMD_MSG, 0xFFFF, 5);
+    CHECK(is_not_read(none_begun, 20, 8, 0xFFFE, SNJOFRASK_REFUSAL_LONG_MESSAGE));
+    for (size_t declared = 0; declared < 17; declared++) {
+        put_fragment(SNJOFRASK_BLE_CMD_MSG, declared, 17);
+        CHECK(is_not_read(none_begun, 20, declared + 4, declared, SNJOFRASK_REFUSAL_EXCESS));
+        CHECK(is_not_read(none_begun, 20, 20, 512, SNJOFRASK_REFUSAL_EXCESS));
+    }
+    for (uint16_t due = 1; due < 19; due++) {
+        put_fragment(5, 0, 19);
+        CHECK(is_not_read(begun_with((uint16_t)(17 + due), 17, 5), 20, (size_t)due + 2, 100, SNJOFRASK_REFUSAL_EXCESS));
+        CHECK(is_not_read(begun_with((uint16_t)(17 + due), 17, 5), 20, 20, (size_t)17 + due, SNJOFRASK_REFUSAL_EXCESS));
+    }
+}
+
+/* Fragments that aren't full, and without any data: the number goes on. */
+static void fragments_without_data(void)
+{
+    snjofrask_collection collection = none_begun;
+
+    memset(large, 0xEE, 600);
+    put_fragment(SNJOFRASK_BLE_CMD_ERROR, 2, 0);
+    CHECK(is(read_fragment(&collection, 3, 2), SNJOFRASK_KIND_WAITING, 0, 0, 0));
+    CHECK(collection.len == 2 && collection.taken == 0 && collection.cmd == SNJOFRASK_BLE_CMD_ERROR && collection.seq == 0);
+    for (int index = 0; index < 300; index++) {
+        put_fragment((uint8_t)(index & 0x7F), 0, 0);
+        CHECK(is(read_fragment(&collection, 1, 2), SNJOFRASK_KIND_WAITING, 0, 0, 0));
+        CHECK(collection.len == 2 && collection.taken == 0 && collection.seq == ((index + 1) & 0x7F));
+    }
+    CHECK(all_are(large, 600, 0xEE));
+    put_fragment(300 & 0x7F, 0, 1);
+    CHECK(is(read_fragment(&collection, 2, 2), SNJOFRASK_KIND_WAITING, 0, 0, 0) && collection.taken == 1);
+    put_fragment(301 & 0x7F, 0, 1);
+    CHECK(is(read_fragment(&collection, 2, 2), SNJOFRASK_KIND_COLLECTED, 0, SNJOFRASK_BLE_CMD_ERROR, 2));
+    CHECK(large[0] == 0 && large[1] == 0 && all_are(large + 2, 598, 0xEE) && are_alike(collection, none_begun));
+}
+
+/* Any byte from 128 on is read, and one that is begun is handed back as it stands. */
+static void any_command_byte(void)
+{
+    for (int cmd = 0; cmd < 256; cmd++) {
+        snjofrask_collection collection = {2, 1, (uint8_t)cmd, 127};
+
+        put_fragment(127, 0, 1);
+        CHECK(is(read_fragment(&collection, 2, 2), SNJOFRASK_KIND_COLLECTED, 0, cmd, 2) && are_alike(collection, none_begun));
+        if (cmd >= 128) {
+            put_fragment((uint8_t)cmd, 1, 1);
+            CHECK(is(read_fragment(&collection, 4, 1), SNJOFRASK_KIND_COLLECTED, 0, cmd, 1) && are_alike(collection, none_begun));
+        }
+    }
+    /* a long buffer is long, though of its last 16 bits none is set */
+    {
+        snjofrask_collection collection = none_begun;
+
+        put_fragment(SNJOFRASK_BLE_CMD_MSG, 5, 5);
+        CHECK(is(read_fragment(&collection, 8, 65536), SNJOFRASK_KIND_COLLECTED, 0, SNJOFRASK_BLE_CMD_MSG, 5) && is_message(large, 0, 5));
+    }
+}
+
+/* Whether a message over Bluetooth comes out as it was sent, of payload's bytes, in buffers that are lent anew at every call. */
+static int comes_over_bluetooth(snjofrask_collection *collection, size_t size, size_t len, size_t spoilt)
+{
+    const size_t count = snjofrask_ble_fragment_count(size, len).len;
+
+    for (size_t index = 0; index < count; index++) {
+        const snjofrask_outcome written =
+            snjofrask_ble_write_fragment(size, SNJOFRASK_BLE_CMD_MSG, payload, len, index, fragment, sizeof fragment);
+        snjofrask_outcome read;
+
+        lend_anew(collection->len != 0 ? collection->taken : 0, spoilt);
+        read = snjofrask_ble_read_fragment(collection, size, fragment, written.len, lent, LENT_SIZE);
+        if (index + 1 < count)
+            CHECK(is(read, SNJOFRASK_KIND_WAITING, 0, 0, 0));
+        else
+            CHECK(is(read, SNJOFRASK_KIND_COLLECTED, 0, SNJOFRASK_BLE_CMD_MSG, len));
+    }
+    return memcmp(lent, payload, len) == 0;
+}
+
+static void lending_to_bluetooth(void)
+{
+    snjofrask_collection collection = none_begun;
+
+    CHECK(comes_over_bluetooth(&collection, 20, LENT_SIZE, 0) && comes_over_bluetooth(&collection, 512, LENT_SIZE, 0));
+    CHECK(!comes_over_bluetooth(&collection, 20, 18, 1));
+    /* a message is given up by a fresh collection, and nothing of it is owed then */
+    put_fragment(SNJOFRASK_BLE_CMD_MSG, 18, 17);
+    CHECK(is(snjofrask_ble_read_fragment(&collection, 20, fragment, 20, lent, LENT_SIZE), SNJOFRASK_KIND_WAITING, 0, 0, 0));
+    collection = none_begun;
+    CHECK(comes_over_bluetooth(&collection, 20, 18, 0));
 }
 
 /* ---- a wait for a touch */
@@ -1231,6 +1678,17 @@ int main(void)
     lengths_to_a_state();
     flags_and_times();
     channels_and_commands();
+    fragments_return();
+    longest_message();
+    writing_refusals();
+    fragment_sizes_and_lengths();
+    unsound_collections();
+    none_begun_of_others();
+    wrong_fragment_numbers();
+    long_messages_and_excess();
+    fragments_without_data();
+    any_command_byte();
+    lending_to_bluetooth();
     wait_begins();
     wait_elapses();
     wait_goes_by_the_sensor();

@@ -1,11 +1,15 @@
 //! The image that speed/cortex-m4 counts, for an emulated Cortex-M4: every job of the rows of docs/SPEED.md, 20 and then 120
-//! times. It prints `job NAME` before each; the counts are the emulator's, at each call of speed_mark.
+//! times. With the setting `fragments` they are those over Bluetooth, as an image of their own. It prints `job NAME` before each; the counts are the emulator's, at each call of speed_mark.
 #![no_std]
 #![no_main]
 
 extern crate alloc;
 
 mod heap;
+#[cfg(fragments)]
+#[path = "../fragments.rs"]
+mod jobs;
+#[cfg(not(fragments))]
 #[path = "../../target/oracle/workspace/host/src/bin/speed.rs"]
 mod jobs;
 
@@ -42,8 +46,10 @@ static VECTORS: Vectors = Vectors {
 };
 
 extern "C" fn start() -> ! {
+    #[cfg_attr(fragments, allow(unused_mut))]
     let mut rows = jobs::rows();
     // what a continuation takes is a long PING less this one
+    #[cfg(not(fragments))]
     rows.push(jobs::ping("ping-116", 116));
     jobs::check(&rows);
     for job in jobs::JOBS {
@@ -51,6 +57,7 @@ extern "C" fn start() -> ! {
             count(job, row);
         }
     }
+    #[cfg(not(fragments))]
     for job in ["ours:host", "copy:received"] {
         count(
             job,

@@ -1,4 +1,4 @@
-//! CTAPHID: FIDO messages over USB HID in packets of 64 bytes.
+//! CTAPHID: FIDO messages over USB HID in packets of 64 bytes. Over Bluetooth, in fragments: [`ble`].
 //!
 //! A safe interface over Snjofrask's archive, whose every function is proved (`docs/PROMISES.md` in its repository).
 //! Nothing here allocates or panics, and there are no globals: a state is a value of the caller's, which holds the
@@ -63,6 +63,7 @@ compile_error!("there is no archive for this processor");
 #[cfg(target_endian = "big")]
 compile_error!("every archive is for little endian");
 
+pub mod ble;
 mod hid;
 mod host;
 #[cfg(feature = "vendor_hid")]

@@ -200,7 +200,7 @@ pub enum ProcessedPacket<'a> {
 pub enum Refusal {
     /// A packet that isn't 64 bytes. No call of this crate can have one.
     PacketSize = 1,
-    /// A buffer that is too short. No call of this crate can have one.
+    /// Bluetooth: a buffer below the fragment size. No other call of this crate can have a buffer that is too short.
     ShortBuffer = 2,
     /// A state that makes no sense. None that this crate makes is such.
     Unsound = 3,
@@ -208,9 +208,10 @@ pub enum Refusal {
     Time = 4,
     /// Set-up with a buffer of more than [`LARGEST_PAYLOAD`](crate::LARGEST_PAYLOAD) bytes.
     Maximum = 5,
-    /// A packet past a message's last.
+    /// A packet or a fragment past a message's last.
     Index = 6,
-    /// A payload of more than [`LARGEST_PAYLOAD`](crate::LARGEST_PAYLOAD) bytes.
+    /// A payload of more than [`LARGEST_PAYLOAD`](crate::LARGEST_PAYLOAD) bytes, or over Bluetooth of more than
+    /// [`ble::LARGEST_PAYLOAD`](crate::ble::LARGEST_PAYLOAD).
     LongPayload = 7,
     // 8 is not used again: it was for a PING too long to be echoed, and no step can have one
     /// Host: a packet with a wrong number, or a first packet inside a reply.
@@ -220,11 +221,22 @@ pub enum Refusal {
     /// Host: not a reply to INIT, or one of fewer than 17 bytes or more than
     /// [`LARGEST_PAYLOAD`](crate::LARGEST_PAYLOAD).
     NotInit = 11,
-    /// A command above 127. No call of this crate can have one.
+    /// A command above 127, or one that Bluetooth doesn't have. No call of this crate can have one.
     Command = 12,
     /// Set-up with a vendor command below [`VENDOR_FIRST`](CtapHidCommand::VENDOR_FIRST) or above
     /// [`VENDOR_LAST`](CtapHidCommand::VENDOR_LAST).
     Vendor = 13,
+    /// Bluetooth: a fragment size below [`ble::SMALLEST_FRAGMENT`](crate::ble::SMALLEST_FRAGMENT) or above
+    /// [`ble::LARGEST_FRAGMENT`](crate::ble::LARGEST_FRAGMENT).
+    FragmentSize = 14,
+    /// Bluetooth: a fragment that is too short for its head, or longer than the size.
+    FragmentLength = 15,
+    /// Bluetooth: a fragment with a wrong number, a continuation with no message begun, or a first fragment inside one.
+    FragmentNumber = 16,
+    /// Bluetooth: a message that the buffer can't hold.
+    LongMessage = 17,
+    /// Bluetooth: more data than remains due.
+    Excess = 18,
 }
 
 impl Refusal {
@@ -242,6 +254,11 @@ impl Refusal {
             11 => Refusal::NotInit,
             12 => Refusal::Command,
             13 => Refusal::Vendor,
+            14 => Refusal::FragmentSize,
+            15 => Refusal::FragmentLength,
+            16 => Refusal::FragmentNumber,
+            17 => Refusal::LongMessage,
+            18 => Refusal::Excess,
             _ => Refusal::Unsound,
         }
     }
@@ -255,13 +272,18 @@ impl core::fmt::Display for Refusal {
             Refusal::Unsound => "a state that makes no sense",
             Refusal::Time => "a time that is too late or goes back",
             Refusal::Maximum => "a maximum above 7,609 bytes",
-            Refusal::Index => "a packet past the last",
-            Refusal::LongPayload => "a payload above 7,609 bytes",
+            Refusal::Index => "a packet or a fragment past the last",
+            Refusal::LongPayload => "a payload above 7,609 bytes, or over Bluetooth above 65,535",
             Refusal::Sequence => "a packet out of order",
             Refusal::LongReply => "a reply that the buffer can't hold",
             Refusal::NotInit => "not a reply to INIT",
-            Refusal::Command => "a command above 127",
+            Refusal::Command => "a command above 127, or one that Bluetooth doesn't have",
             Refusal::Vendor => "a vendor command that isn't 64 to 127",
+            Refusal::FragmentSize => "a fragment size that isn't 20 to 512",
+            Refusal::FragmentLength => "a fragment too short for its head, or above the size",
+            Refusal::FragmentNumber => "a fragment out of order",
+            Refusal::LongMessage => "a message that the buffer can't hold",
+            Refusal::Excess => "more data than was declared",
         })
     }
 }

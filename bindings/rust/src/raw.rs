@@ -208,6 +208,24 @@ unsafe extern "C" {
         buffer_len: usize,
     ) -> Outcome;
     fn snjofrask_init_reply(cmd: u8, payload: *const u8, payload_len: usize) -> InitOutcome;
+    fn snjofrask_ble_fragment_count(size: usize, len: usize) -> Outcome;
+    fn snjofrask_ble_write_fragment(
+        size: usize,
+        cmd: u8,
+        payload: *const u8,
+        payload_len: usize,
+        index: usize,
+        buffer: *mut u8,
+        buffer_len: usize,
+    ) -> Outcome;
+    fn snjofrask_ble_read_fragment(
+        collection: *mut Collection,
+        size: usize,
+        fragment: *const u8,
+        fragment_len: usize,
+        buffer: *mut u8,
+        buffer_len: usize,
+    ) -> Outcome;
     fn snjofrask_wait_begin(wait: *mut Wait, interface: u32, cid: u32, time: u64, limit: u32)
     -> u8;
     fn snjofrask_wait_elapsed(wait: *const Wait, time: u64) -> u8;
@@ -349,6 +367,48 @@ pub fn host_read(
 
 pub fn init_reply(cmd: u8, payload: &[u8]) -> InitOutcome {
     unsafe { snjofrask_init_reply(cmd, payload.as_ptr(), payload.len()) }
+}
+
+pub fn ble_fragment_count(size: usize, len: usize) -> Outcome {
+    unsafe { snjofrask_ble_fragment_count(size, len) }
+}
+
+pub fn ble_write_fragment(
+    size: usize,
+    cmd: u8,
+    payload: &[u8],
+    index: usize,
+    buffer: &mut [u8],
+) -> Outcome {
+    unsafe {
+        snjofrask_ble_write_fragment(
+            size,
+            cmd,
+            payload.as_ptr(),
+            payload.len(),
+            index,
+            buffer.as_mut_ptr(),
+            buffer.len(),
+        )
+    }
+}
+
+pub fn ble_read_fragment(
+    collection: &mut Collection,
+    size: usize,
+    fragment: &[u8],
+    buffer: &mut [u8],
+) -> Outcome {
+    unsafe {
+        snjofrask_ble_read_fragment(
+            collection,
+            size,
+            fragment.as_ptr(),
+            fragment.len(),
+            buffer.as_mut_ptr(),
+            buffer.len(),
+        )
+    }
 }
 
 pub fn wait_begin(wait: &mut Wait, interface: u32, cid: u32, time: u64, limit: u32) -> u8 {
