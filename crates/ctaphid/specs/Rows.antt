@@ -14,7 +14,7 @@ use Rattle.ctaphid.specs.Limits.{packetSize, largest, shortReply, timeou
 use Rattle.ctaphid.specs.Settings.{Settings, knows}
 use Rattle.ctaphid.specs.Receiver.{Receiver, idle, busy, isOn, stillDue}
 use Rattle.ctaphid.specs.Transport.{Lock, free, Transport, fresh, Event, Answer, nothing, reply, request, isValid, isLocked, isLockedBy, isLockedAgainst, withAllocated, withLock, withReceiver, step, afterwards, run}
-use Rattle.ctaphid.specs.Refusals.{PacketSize, ShortBuffer, Unsound, Time, Maximum, Index, LongPayload, Sequence, LongReply, NotInit, Command, Vendor, refusalNumber}
+use Rattle.ctaphid.specs.Refusals.{PacketSize, ShortBuffer, Unsound, Time, Maximum, Index, LongPayload, Sequence, LongReply, NotInit, Command, Vendor, FragmentSize, FragmentLength, FragmentNumber, LongMessage, Excess, refusalNumber}
 use Rattle.ctaphid.specs.Device.{Device, device, setUp, deviceStep, deviceRun, isWinking}
 
 -- ---- what a row is made of
@@ -219,8 +219,8 @@ pub record FurtherRows : Type 0 where
       ≡ 1 ∷ 2 ∷ 3 ∷ 4 ∷ 5 ∷ 6 ∷ 10 ∷ 11 ∷ 127 ∷ []
   pub capability-bits : map bit (wink ∷ cbor ∷ nmsg ∷ []) ≡ 1 ∷ 4 ∷ 8 ∷ []
   pub capability-bytes : map capabilities (true ∷ false ∷ []) ≡ 5 ∷ 13 ∷ []
-  pub refusal-numbers : map refusalNumber (PacketSize ∷ ShortBuffer ∷ Unsound ∷ Time ∷ Maximum ∷ Index ∷ LongPayload ∷ Sequence ∷ LongReply ∷ NotInit ∷ Command ∷ Vendor ∷ [])
-      ≡ 1 ∷ 2 ∷ 3 ∷ 4 ∷ 5 ∷ 6 ∷ 7 ∷ 9 ∷ 10 ∷ 11 ∷ 12 ∷ 13 ∷ []
+  pub refusal-numbers : map refusalNumber (PacketSize ∷ ShortBuffer ∷ Unsound ∷ Time ∷ Maximum ∷ Index ∷ LongPayload ∷ Sequence ∷ LongReply ∷ NotInit ∷ Command ∷ Vendor ∷ FragmentSize ∷ FragmentLength ∷ FragmentNumber ∷ LongMessage ∷ Excess ∷ [])
+      ≡ 1 ∷ 2 ∷ 3 ∷ 4 ∷ 5 ∷ 6 ∷ 7 ∷ 9 ∷ 10 ∷ 11 ∷ 12 ∷ 13 ∷ 14 ∷ 15 ∷ 16 ∷ 17 ∷ 18 ∷ []
   pub limits : packetSize ∷ largest ∷ shortReply ∷ timeout ∷ winkTime ∷ lastTime ∷ [] ≡ 64 ∷ 7609 ∷ 17 ∷ 100 ∷ 5000 ∷ 281474976710655 ∷ []
   -- the first test that holds refuses; where none does, none
   pub refuses : (refusing (λ (n : ℕ). n) ((false, 3) ∷ (true, 4) ∷ (true, 5) ∷ []) 9 ≡ 4) × (refusing (λ (n : ℕ). n) ((false, 3) ∷ []) 9 ≡ 9)
