@@ -1,7 +1,6 @@
 -- Each public contract leaves one outcome: the answer, and the collection and the buffer at exit where they are lent. Assumes nothing.
 use mathlib.Core.Path.{refl, sym, ap, _∙_}
 use Rattle.outcome.specs.One.{OneOutcome, from-facts}
-use Rattle.ble.specs.declared.Progress.{Progress}
 use Rattle.ble.specs.Writing.{Left}
 use Rattle.ble.specs.Reading.{Reading}
 use Rattle.ble.proofs.command.BleCommand.byte as byte

@@ -1,19 +1,17 @@
 -- A message in fragments: how many, which stands at an index, and that it is given back where it is read. Assumes nothing.
-use Prim.Native.Nat.{ℕ, zero, suc, _+_, _-_, _*_, _/_, _%_, _^_, _≤_, _<_}
+use Prim.Native.Nat.{ℕ, zero, suc, _+_, _-_, _*_, _/_, _%_, _≤_, _<_}
 use native.Mathlib.Omega.{arith}
 use native.Mathlib.Decide.{decLe}
-use native.Mathlib.Nat.{mod-lt}
 use mathlib.Core.Path.{_≡_, refl, sym, ap, _∙_}
-use mathlib.Core.List.{List, [], _∷_, _++_, map}
+use mathlib.Core.List.{List, [], _∷_, _++_}
 use borrow.Author.Tests.{lt-ltb, le-ltb, le-leb, lt-leb, eq-eqb, ne-eqb}
-use lib.Dec.{lit<}
 use lib.ListN.{length, take, drop, getD, length-append, length-take, List·getD-eq-default}
 use lib.Seq.{take-length, length-take-le}
 use Rattle.ctaphid.specs.Choice.{pick}
 use Rattle.ctaphid.specs.Packets.{byte}
 use Rattle.ctaphid.specs.Messages.{chunks, count, framed}
 use Rattle.ctaphid.specs.Host.{Begun, Collection, none, collecting}
-use Rattle.ctaphid.specs.Bluetooth.{Fragment, initialization, continuation, written, Read, tooShort, fragment, readFirst, read, fragments, fragmentsWritten, CutsOverBluetooth, Told, refused, waiting, message, Taken, taken, gather, begin, onFragment, onRead, hear, next, answer, Sendable, RoundTrip, RoundTrips}
+use Rattle.ctaphid.specs.Bluetooth.{Fragment, initialization, continuation, written, tooShort, fragment, read, fragments, fragmentsWritten, CutsOverBluetooth, Told, refused, waiting, message, Taken, taken, gather, begin, onFragment, onRead, hear, next, answer, Sendable, RoundTrip, RoundTrips}
 use Rattle.ctaphid.proofs.Splitting.{chunks-framed, framed-length, framed-first, framed-later, count-least, chunks-full, chunks-first, chunks-later, count-next}
 use Rattle.ctaphid.proofs.Reassembling.{Reads, reads-chunks}
 

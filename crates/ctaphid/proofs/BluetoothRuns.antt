@@ -1,17 +1,16 @@
 -- What a reader hands out over Bluetooth is what was declared: an invariant of its runs. Assumes nothing.
-use Prim.Native.Nat.{ℕ, suc, _+_, _-_, _%_, _≤_, _<_}
+use Prim.Native.Nat.{ℕ, suc, _+_, _-_, _%_, _≤_}
 use native.Mathlib.Omega.{arith}
 use native.Mathlib.Decide.{decLe, ℕ-discrete}
 use native.Mathlib.Nat.{add-zero}
 use mathlib.Core.Path.{_≡_, refl, sym, ap, subst, _∙_}
 use mathlib.Core.List.{List, [], _∷_, _++_, flatten, append-nil, append-assoc}
-use borrow.Author.Tests.{lt-ltb, le-ltb, eqb-true}
+use borrow.Author.Tests.{eqb-true}
 use lib.Dec.{ltb, eqb}
 use lib.ListN.{length, length-append}
-use Rattle.ctaphid.specs.Choice.{pick}
 use Rattle.ctaphid.specs.Messages.{numbered, framed}
 use Rattle.ctaphid.specs.Host.{Begun, Collection, none, collecting}
-use Rattle.ctaphid.specs.Bluetooth.{Fragment, initialization, continuation, Read, tooShort, fragment, read, Told, refused, waiting, message, Taken, taken, gather, begin, onFragment, onRead, hear, next, answer, after, isTaken, takenOf, Declared, CollectsDeclared}
+use Rattle.ctaphid.specs.Bluetooth.{Fragment, initialization, continuation, Read, tooShort, fragment, read, refused, message, Taken, taken, gather, begin, onFragment, onRead, hear, next, answer, after, isTaken, takenOf, Declared, CollectsDeclared}
 use Rattle.ctaphid.proofs.Tests.{pick-known}
 use Rattle.ctaphid.proofs.Bluetooth.{gather-over, gather-waits, gather-whole}
 

@@ -12,7 +12,7 @@ use Rattle.ctaphid.specs.Choice.{pick}
 use Rattle.ctaphid.specs.Packets.{Packet, initialization, continuation, channelIn, read, written, Formed}
 use Rattle.ctaphid.specs.Messages.{later, chunks, padded, fields, numbered, packets, wire}
 use Rattle.ctaphid.specs.Receiver.{channelOf}
-use Rattle.ctaphid.specs.Host.{Begun, Collection, none, collecting, Heard, ignored, keepalive, waiting, reply, Got, got, gather, alive, begin, whenNone, whenBegun, onOwn, hear, answers, after, atLast, own, woven, Sendable, RoundTrip, RoundTrips}
+use Rattle.ctaphid.specs.Host.{Begun, Collection, none, collecting, Heard, ignored, keepalive, waiting, reply, Got, got, gather, alive, begin, whenNone, whenBegun, onOwn, hear, answers, after, own, woven, Sendable, RoundTrip, RoundTrips}
 use Rattle.ctaphid.proofs.Packets.{channel-read, read-written}
 use Rattle.ctaphid.proofs.Splitting.{padded-full}
 use Rattle.ctaphid.proofs.Messages.{first, next, wire-framed}

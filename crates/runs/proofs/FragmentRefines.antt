@@ -4,10 +4,10 @@ use native.Mathlib.Omega.{arith}
 use native.Mathlib.Decide.{decLe, ℕ-discrete}
 use mathlib.Core.Path.{_≡_, refl, sym, ap, subst, _∙_}
 use mathlib.Core.List.{List, [], _++_}
-use mathlib.Core.Bool.{Bool, true, false, not}
+use mathlib.Core.Bool.{true, not}
 use borrow.Author.Tests.{ltb-false, not-false}
 use lib.Dec.{eqb, ltb}
-use lib.ListN.{length, take, drop, length-append}
+use lib.ListN.{length, drop, length-append}
 use lib.Seq.{length-take-le, drop-append-seam}
 use Rattle.ctaphid.specs.Choice.{pick}
 use Rattle.ctaphid.specs.Host as standard
@@ -18,7 +18,7 @@ use Rattle.ctaphid.proofs.Bluetooth.{gather-over, gather-waits, gather-whole}
 use Rattle.collect.specs.Adding.{front}
 use Rattle.host.specs.declared.Collection.{Collection}
 use Rattle.host.specs.Meaning.{collectionMeant, collectionOf}
-use Rattle.ble.specs.declared.Answer.the-variants.{Refused, Waiting, Message}
+use Rattle.ble.specs.declared.Answer.the-variants.{Refused}
 use Rattle.ble.specs.Soundness.{Sound, isSound}
 use Rattle.ble.specs.Reading.{Reading, reading, laid, readOf}
 use Rattle.ble.proofs.Sound.{is-sound, sound-is}

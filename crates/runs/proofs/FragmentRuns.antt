@@ -21,7 +21,7 @@ use Rattle.host.specs.Meaning.{collectionMeant, noneBegun}
 use Rattle.ble.specs.Soundness.{Sound}
 use Rattle.ble.specs.Writing.{writeOf}
 use Rattle.ble.proofs.Sending.{sized, writes}
-use Rattle.runs.specs.FragmentRuns.{Refines, FragmentCall, onCall, fragmentRunOf, FragmentsLent, heardWithin, answersWithin, FragmentRunsAlike, sentOf, sentBy, EachLong, Writes, WritesAll, ReadsBack}
+use Rattle.runs.specs.FragmentRuns.{Refines, FragmentCall, onCall, fragmentRunOf, FragmentsLent, heardWithin, answersWithin, FragmentRunsAlike, sentOf, sentBy, EachLong, WritesAll, ReadsBack}
 use Rattle.runs.proofs.HostRefines.{none-meant, at-front}
 use Rattle.runs.proofs.HostRuns.{means}
 use Rattle.runs.proofs.FragmentRefines.{read-refines, sound-stays, length-stays}
