@@ -1,4 +1,5 @@
 // Input of the bench program, cut into lines, and what a line says. docs/RULES.md, The bench's lines.
+#![tactic(auto)]
 mod hex;
 mod lines;
 mod pieces;

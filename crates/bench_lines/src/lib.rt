@@ -1,4 +1,5 @@
 // A line of the bench program, answered: read, a step of the device on it, and what that prints. docs/RULES.md, The bench's lines.
+#![tactic(auto)]
 mod answering;
 
 pub use answering::bench_line;

@@ -1,4 +1,5 @@
 // What the bench program prints for an answer of the device. docs/RULES.md, The bench's lines.
+#![tactic(auto)]
 mod packets;
 mod placing;
 mod printing;

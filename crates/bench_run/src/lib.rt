@@ -1,4 +1,5 @@
 // The bench's loop: standard input to its end, line by line, and the device's answers on standard output.
+#![tactic(auto)]
 ghost use Rattle.std.specs.Prelude.{◌≡◌};
 
 use bench_input::{Cut, Line};

@@ -1,5 +1,5 @@
 -- Delivery is carried to any device that answers as the standard's transport does. Assumes nothing.
-use Prim.Native.Nat.{ℕ}
+use Prim.Native.Nat.{ℕ, ◌+◌}
 use mathlib.Core.Path.{sym, subst, ◌∙◌}
 use mathlib.Core.List.{List, [], ◌∷◌}
 use mathlib.Core.Logic.{⊎_elim}
@@ -19,7 +19,7 @@ sent-follows c deadline [] (f ∷ rest) e past taken w = absurd w
 sent-follows c deadline (p ∷ ps) (f ∷ rest) e past taken w =
     let next : Taken (f ∷ (e ∷ past)) = (w.0, w.1, taken) in (
       next,
-      ⊎_elim (λ o. sent-follows c _ ps rest f (e ∷ past) next o.3) (λ o. sent-follows c _ (p ∷ ps) rest f (e ∷ past) next o.1) w.2,
+      ⊎_elim (λ o. sent-follows c (f.time + 100) ps rest f (e ∷ past) next o.3) (λ o. sent-follows c deadline (p ∷ ps) rest f (e ∷ past) next o.1) w.2,
     )
 
 module _ (D : AnyDevice) (agrees : Agrees D) (set : Settings) (large : Permitted set) where

@@ -28,7 +28,7 @@ sent-follows i c deadline [] a rest past taken w = absurd w
 sent-follows i c deadline (p ∷ ps) a [] past taken w = ((w.0, w.1, taken), ⊎_elim (λ o. o.0) (λ o. absurd (none_left o.1)) w.2)
 sent-follows i c deadline (p ∷ ps) a (b ∷ rest) past taken w =
     let next : TakenBy (a ∷ past) = (w.0, w.1, taken) in
-    (next, ⊎_elim (λ o. sent-follows i c _ ps b rest (a ∷ past) next o.3) (λ o. sent-follows i c _ (p ∷ ps) b rest (a ∷ past) next o.1) w.2)
+    (next, ⊎_elim (λ o. sent-follows i c (a.time + 100) ps b rest (a ∷ past) next o.3) (λ o. sent-follows i c deadline (p ∷ ps) b rest (a ∷ past) next o.1) w.2)
 
 -- what this interface sees of it
 abbrev seen_after : Interface → KeySettings → (past rest : List Arrival) → List Event

@@ -4,7 +4,7 @@ use Rattle.std.specs.Prelude.{ℕ, ◌-◌, ◌≡◌, length, take, replicate}
 use mathlib.Core.List.{List, [], ◌∷◌, ◌++◌, map, flatten}
 use Rattle.ctaphid.specs.Commands.{number}
 use Rattle.ctaphid.specs.Messages.{wire}
-use Rattle.ctaphid.specs.Touch.{place, begun, Arrival, none, packet, Sensor, touch, timeout, error, Message, Ending, not_yet, touched, cancelled, timed_out, failed, Response, touch_step}
+use Rattle.ctaphid.specs.Touch.{place, begun, Arrival, none, packet, Sensor, touch, timeout, error, Message, Ending, not_yet as goes_on, touched, cancelled, timed_out, failed, Response, touch_step}
 
 -- a packet of 64 bytes
 abbrev pub filled : List ℕ → List ℕ
@@ -51,11 +51,11 @@ busy-2 = 0 ∷ 0 ∷ 0 ∷ 2 ∷ 0xbf ∷ 0 ∷ 1 ∷ 6 ∷ []
 
 pub record WaitRows : Type 0 where
   -- nothing came: the sensor's word alone
-  pub not_yet : stepped 0 none timeout ≡ ((1, alive-1) ∷ [], not_yet)
+  pub not_yet : stepped 0 none timeout ≡ ((1, alive-1) ∷ [], goes_on)
   pub a_touch : stepped 0 none touch ≡ ([], touched)
   pub an-error : stepped 0 none (error 39) ≡ ([], failed 39)
   -- another channel is told busy, whatever the sensor said, and before the KEEPALIVE
-  pub busy-first : stepped 0 (packet 1 ping-2) timeout ≡ ((1, busy-2) ∷ (1, alive-1) ∷ [], not_yet)
+  pub busy-first : stepped 0 (packet 1 ping-2) timeout ≡ ((1, busy-2) ∷ (1, alive-1) ∷ [], goes_on)
   pub busy-at-touch : stepped 0 (packet 1 ping-2) touch ≡ ((1, busy-2) ∷ [], touched)
   pub busy-at-error : stepped 0 (packet 1 ping-2) (error 39) ≡ ((1, busy-2) ∷ [], failed 39)
   -- CANCEL goes before a touch and sends nothing, whatever its length
@@ -63,10 +63,10 @@ pub record WaitRows : Type 0 where
   pub cancel-silent : stepped 0 (packet 1 cancel-1) timeout ≡ ([], cancelled)
   pub cancel-any : stepped 0 (packet 1 cancel-long) (error 39) ≡ ([], cancelled)
   -- the same number on another interface is another channel, and so is broadcast
-  pub elsewhere : stepped 0 (packet 2 cancel-1) timeout ≡ ((2, 0 ∷ 0 ∷ 0 ∷ 1 ∷ 0xbf ∷ 0 ∷ 1 ∷ 6 ∷ []) ∷ (1, alive-1) ∷ [], not_yet)
+  pub elsewhere : stepped 0 (packet 2 cancel-1) timeout ≡ ((2, 0 ∷ 0 ∷ 0 ∷ 1 ∷ 0xbf ∷ 0 ∷ 1 ∷ 6 ∷ []) ∷ (1, alive-1) ∷ [], goes_on)
   pub broadcast : stepped 0 (packet 1 cancel-all) touch ≡ ((1, 0xff ∷ 0xff ∷ 0xff ∷ 0xff ∷ 0xbf ∷ 0 ∷ 1 ∷ 6 ∷ []) ∷ [], touched)
   -- what else comes on the channel that waits is dropped: INIT, and a continuation with the number of CANCEL
-  pub init-dropped : stepped 0 (packet 1 init-1) timeout ≡ ((1, alive-1) ∷ [], not_yet)
+  pub init-dropped : stepped 0 (packet 1 init-1) timeout ≡ ((1, alive-1) ∷ [], goes_on)
   pub no-cancel : stepped 0 (packet 1 later-11) touch ≡ ([], touched)
   -- the limit: at 99 ms the wait is on; at 100 it is over, and nothing is looked at
   pub last : stepped 99 (packet 1 ping-2) touch ≡ ((1, busy-2) ∷ [], touched)

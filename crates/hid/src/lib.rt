@@ -1,4 +1,5 @@
 // The device's side of CTAPHID, after the rest of OpenSK's hid/mod.rs, and main_hid.rs.
+#![tactic(auto)]
 
 mod commands;
 mod due;

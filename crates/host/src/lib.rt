@@ -1,4 +1,5 @@
 // The host's side of CTAPHID: the packets of one channel put together into replies. OpenSK has none; docs/RULES.md says what it does.
+#![tactic(auto)]
 
 mod init;
 mod reading;

@@ -1,4 +1,5 @@
 // What the programs print. No contract of the kit can say what is written: each function returns nothing, and alters nothing that it is lent.
+#![tactic(auto)]
 ghost use Rattle.std.specs.Prelude.{◌≡◌};
 
 use libc::STDOUT_FILENO;

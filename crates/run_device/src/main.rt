@@ -1,6 +1,7 @@
 // Runs of the device beside the rows of docs/RULES.md: a broadcast INIT that declares 60 bytes, a wink at its end, the packets still due, commands that aren't known,
 // and vendor commands.
 // A line has the time, the packet's front and the answer: its payload where it has one.
+#![tactic(auto)]
 use hid::{Answer, MainHid, MainReady, Running};
 use libc::STDOUT_FILENO;
 use packet::Limits;

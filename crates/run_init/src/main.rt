@@ -1,4 +1,5 @@
 // Replies to INIT through the exported entry, and what follows their fields. Then the same after packets: cut by the sender, put together by the host's reader.
+#![tactic(auto)]
 use host::{Answer, Collection};
 use libc::STDOUT_FILENO;
 use packet::{CtapHidCommand, Limits};

@@ -1,5 +1,6 @@
 // A key with two interfaces beside the rules of docs/RULES.md: set-up; states that are not sound, each beside its sound neighbour; the order of refusals; and
 // conversations over both interfaces, with the rows of crates/ctaphid/specs/KeyRows.antt among them.
+#![tactic(auto)]
 mod faults;
 mod printing;
 mod refusals;

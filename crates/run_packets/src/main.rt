@@ -1,4 +1,5 @@
 // Runs packets through the reader and writes what it makes of each: a line for the packet, its data included.
+#![tactic(auto)]
 use libc::STDOUT_FILENO;
 use packet::{Limits, ProcessedPacket, Reading};
 use report::{hex, text};

@@ -1,4 +1,5 @@
 // Cuts messages into packets and writes each packet in hex. The stored output is OpenSK's own: oracle/sender-vectors.
+#![tactic(auto)]
 use libc::STDOUT_FILENO;
 use packet::{CtapHidCommand, Limits, Refusal};
 use report::{hex, text};

@@ -1,6 +1,7 @@
 // Steps from states that are not sound, each beside its sound neighbour; then the order of refusals, times and set-up.
 // A line has the step's answer, the question's, and whether the state and both buffers are as they came: of the transport, then of
 // the device. The packet always writes to a buffer, so a step that is taken alters something.
+#![tactic(auto)]
 use hid::{Answer, CtapHid, MainHid, MainReady, MainStepped, MessageAssembler, Ready, Running};
 use libc::STDOUT_FILENO;
 use packet::Limits;

@@ -1,4 +1,5 @@
 // A message cut into packets, after OpenSK's hid/send.rs.
+#![tactic(auto)]
 mod sender;
 
 ghost use Rattle.std.specs.Prelude.{◌≡◌, [], ◌∷◌, ◌++◌, ◌+◌, ◌-◌, ◌/◌, ◌*◌, ◌≤◌, ◌<◌, length, take, drop, replicate, get_or, eqb};

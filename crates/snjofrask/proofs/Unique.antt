@@ -26,109 +26,109 @@ use Rattle.snjofrask.specs.contracts.snjofrask_ble_fragment_count as ble-fragmen
 use Rattle.snjofrask.specs.contracts.snjofrask_ble_write_fragment as ble-write-fragment
 use Rattle.snjofrask.specs.contracts.snjofrask_ble_read_fragment as ble-read-fragment
 
-pub snjofrask_transport_new-one : OneOutcome transport-new.ended (λ M 𝓤. transport-new.clauses 𝓤) (λ M 𝓤. transport-new.spec 𝓤)
+pub snjofrask_transport_new-one : OneOutcome transport-new.ended (λ M 𝓤 𝓛. transport-new.clauses 𝓛) (λ M 𝓤 𝓛. transport-new.spec 𝓛)
 snjofrask_transport_new-one = record {
   stated = λ M 𝓤 𝓛 mem run. refl;
   one = λ {𝓤 = 𝓤} 𝓛 mem run κs a g x y v w. from-facts 𝓤 (λ p q. (ap (λ (o : MadeHid). o.refusal) (p ∙ sym q), λ i. (((p ∙ sym q) i).hid, (tt, (tt, (tt, tt))))));
 }
 
-pub snjofrask_transport_step-one : OneOutcome transport-step.ended (λ M 𝓤. transport-step.clauses 𝓤) (λ M 𝓤. transport-step.spec 𝓤)
+pub snjofrask_transport_step-one : OneOutcome transport-step.ended (λ M 𝓤 𝓛. transport-step.clauses 𝓛) (λ M 𝓤 𝓛. transport-step.spec 𝓛)
 snjofrask_transport_step-one = record {
   stated = λ M 𝓤 𝓛 mem run. refl;
   one = λ {𝓤 = 𝓤} 𝓛 mem run κs a g x y v w. from-facts 𝓤 (λ p q. (ap (λ (o : Flattened). o.left.outcome) (p ∙ sym q), λ i. (((p ∙ sym q) i).left.hid, (tt, (tt, (tt, (((p ∙ sym q) i).message, (((p ∙ sym q) i).reply, tt))))))));
 }
 
-pub snjofrask_is_locked-one : OneOutcome is-locked.ended (λ M 𝓤. is-locked.clauses 𝓤) (λ M 𝓤. is-locked.spec 𝓤)
+pub snjofrask_is_locked-one : OneOutcome is-locked.ended (λ M 𝓤 𝓛. is-locked.clauses 𝓛) (λ M 𝓤 𝓛. is-locked.spec 𝓛)
 snjofrask_is_locked-one = record {
   stated = λ M 𝓤 𝓛 mem run. refl;
   one = λ {𝓤 = 𝓤} 𝓛 mem run κs a g x y v w. from-facts 𝓤 (λ p q. (p ∙ sym q, refl));
 }
 
-pub snjofrask_device_new-one : OneOutcome device-new.ended (λ M 𝓤. device-new.clauses 𝓤) (λ M 𝓤. device-new.spec 𝓤)
+pub snjofrask_device_new-one : OneOutcome device-new.ended (λ M 𝓤 𝓛. device-new.clauses 𝓛) (λ M 𝓤 𝓛. device-new.spec 𝓛)
 snjofrask_device_new-one = record {
   stated = λ M 𝓤 𝓛 mem run. refl;
   one = λ {𝓤 = 𝓤} 𝓛 mem run κs a g x y v w. from-facts 𝓤 (λ p q. (ap (λ (o : MadeMain). o.refusal) (p ∙ sym q), λ i. (((p ∙ sym q) i).hid, (tt, (tt, (tt, tt))))));
 }
 
-pub snjofrask_device_step-one : OneOutcome device-step.ended (λ M 𝓤. device-step.clauses 𝓤) (λ M 𝓤. device-step.spec 𝓤)
+pub snjofrask_device_step-one : OneOutcome device-step.ended (λ M 𝓤 𝓛. device-step.clauses 𝓛) (λ M 𝓤 𝓛. device-step.spec 𝓛)
 snjofrask_device_step-one = record {
   stated = λ M 𝓤 𝓛 mem run. refl;
   one = λ {𝓤 = 𝓤} 𝓛 mem run κs a g x y v w. from-facts 𝓤 (λ p q. (ap (λ (o : MainFlattened). o.left.outcome) (p ∙ sym q), λ i. (((p ∙ sym q) i).left.hid, (tt, (tt, (tt, (((p ∙ sym q) i).message, (((p ∙ sym q) i).reply, tt))))))));
 }
 
-pub snjofrask_is_winking-one : OneOutcome is-winking.ended (λ M 𝓤. is-winking.clauses 𝓤) (λ M 𝓤. is-winking.spec 𝓤)
+pub snjofrask_is_winking-one : OneOutcome is-winking.ended (λ M 𝓤 𝓛. is-winking.clauses 𝓛) (λ M 𝓤 𝓛. is-winking.spec 𝓛)
 snjofrask_is_winking-one = record {
   stated = λ M 𝓤 𝓛 mem run. refl;
   one = λ {𝓤 = 𝓤} 𝓛 mem run κs a g x y v w. from-facts 𝓤 (λ p q. (p ∙ sym q, refl));
 }
 
-pub snjofrask_wait_begin-one : OneOutcome wait-begin.ended (λ M 𝓤. wait-begin.clauses 𝓤) (λ M 𝓤. wait-begin.spec 𝓤)
+pub snjofrask_wait_begin-one : OneOutcome wait-begin.ended (λ M 𝓤 𝓛. wait-begin.clauses 𝓛) (λ M 𝓤 𝓛. wait-begin.spec 𝓛)
 snjofrask_wait_begin-one = record {
   stated = λ M 𝓤 𝓛 mem run. refl;
   one = λ {𝓤 = 𝓤} 𝓛 mem run κs a g x y v w. from-facts 𝓤 (λ p q. (ap (λ (o : MadeWait). o.refusal) (p ∙ sym q), λ i. (((p ∙ sym q) i).wait, (tt, (tt, (tt, (tt, tt)))))));
 }
 
-pub snjofrask_wait_elapsed-one : OneOutcome wait-elapsed.ended (λ M 𝓤. wait-elapsed.clauses 𝓤) (λ M 𝓤. wait-elapsed.spec 𝓤)
+pub snjofrask_wait_elapsed-one : OneOutcome wait-elapsed.ended (λ M 𝓤 𝓛. wait-elapsed.clauses 𝓛) (λ M 𝓤 𝓛. wait-elapsed.spec 𝓛)
 snjofrask_wait_elapsed-one = record {
   stated = λ M 𝓤 𝓛 mem run. refl;
   one = λ {𝓤 = 𝓤} 𝓛 mem run κs a g x y v w. from-facts 𝓤 (λ p q. (p ∙ sym q, refl));
 }
 
-pub snjofrask_wait_step-one : OneOutcome wait-step.ended (λ M 𝓤. wait-step.clauses 𝓤) (λ M 𝓤. wait-step.spec 𝓤)
+pub snjofrask_wait_step-one : OneOutcome wait-step.ended (λ M 𝓤 𝓛. wait-step.clauses 𝓛) (λ M 𝓤 𝓛. wait-step.spec 𝓛)
 snjofrask_wait_step-one = record {
   stated = λ M 𝓤 𝓛 mem run. refl;
   one = λ {𝓤 = 𝓤} 𝓛 mem run κs a g x y v w. from-facts 𝓤 (λ p q. (ap (λ (o : FlatWait). o.outcome) (p ∙ sym q), λ i. (((p ∙ sym q) i).wait, (tt, (tt, (tt, (tt, (tt, (tt, tt)))))))));
 }
 
-pub snjofrask_read_packet-one : OneOutcome read-packet.ended (λ M 𝓤. read-packet.clauses 𝓤) (λ M 𝓤. read-packet.spec 𝓤)
+pub snjofrask_read_packet-one : OneOutcome read-packet.ended (λ M 𝓤 𝓛. read-packet.clauses 𝓛) (λ M 𝓤 𝓛. read-packet.spec 𝓛)
 snjofrask_read_packet-one = record {
   stated = λ M 𝓤 𝓛 mem run. refl;
   one = λ {𝓤 = 𝓤} 𝓛 mem run κs a g x y v w. from-facts 𝓤 (λ p q. (p ∙ sym q, refl));
 }
 
-pub snjofrask_packet_count-one : OneOutcome packet-count.ended (λ M 𝓤. packet-count.clauses 𝓤) (λ M 𝓤. packet-count.spec 𝓤)
+pub snjofrask_packet_count-one : OneOutcome packet-count.ended (λ M 𝓤 𝓛. packet-count.clauses 𝓛) (λ M 𝓤 𝓛. packet-count.spec 𝓛)
 snjofrask_packet_count-one = record {
   stated = λ M 𝓤 𝓛 mem run. refl;
   one = λ {𝓤 = 𝓤} 𝓛 mem run κs a g x y v w. from-facts 𝓤 (λ p q. (p ∙ sym q, refl));
 }
 
-pub snjofrask_write_packet-one : OneOutcome write-packet.ended (λ M 𝓤. write-packet.clauses 𝓤) (λ M 𝓤. write-packet.spec 𝓤)
+pub snjofrask_write_packet-one : OneOutcome write-packet.ended (λ M 𝓤 𝓛. write-packet.clauses 𝓛) (λ M 𝓤 𝓛. write-packet.spec 𝓛)
 snjofrask_write_packet-one = record {
   stated = λ M 𝓤 𝓛 mem run. refl;
   one = λ {𝓤 = 𝓤} 𝓛 mem run κs a g x y v w. from-facts 𝓤 (λ p q. (ap (λ (o : Putting). o.number) (p ∙ sym q), λ i. (tt, (tt, (tt, (tt, (((p ∙ sym q) i).packet, tt)))))));
 }
 
-pub snjofrask_split_message-one : OneOutcome split-message.ended (λ M 𝓤. split-message.clauses 𝓤) (λ M 𝓤. split-message.spec 𝓤)
+pub snjofrask_split_message-one : OneOutcome split-message.ended (λ M 𝓤 𝓛. split-message.clauses 𝓛) (λ M 𝓤 𝓛. split-message.spec 𝓛)
 snjofrask_split_message-one = record {
   stated = λ M 𝓤 𝓛 mem run. refl;
   one = λ {𝓤 = 𝓤} 𝓛 mem run κs a g x y v w. from-facts 𝓤 (λ p q. (ap (λ (o : Putting). o.number) (p ∙ sym q), λ i. (tt, (tt, (tt, (tt, (tt, (((p ∙ sym q) i).packet, tt))))))));
 }
 
-pub snjofrask_host_read-one : OneOutcome host-read.ended (λ M 𝓤. host-read.clauses 𝓤) (λ M 𝓤. host-read.spec 𝓤)
+pub snjofrask_host_read-one : OneOutcome host-read.ended (λ M 𝓤 𝓛. host-read.clauses 𝓛) (λ M 𝓤 𝓛. host-read.spec 𝓛)
 snjofrask_host_read-one = record {
   stated = λ M 𝓤 𝓛 mem run. refl;
   one = λ {𝓤 = 𝓤} 𝓛 mem run κs a g x y v w. from-facts 𝓤 (λ p q. (ap (λ (o : HostFlattened). o.left.outcome) (p ∙ sym q), λ i. (((p ∙ sym q) i).left.collection, (tt, (tt, (((p ∙ sym q) i).buffer, tt))))));
 }
 
-pub snjofrask_init_reply-one : OneOutcome init-reply.ended (λ M 𝓤. init-reply.clauses 𝓤) (λ M 𝓤. init-reply.spec 𝓤)
+pub snjofrask_init_reply-one : OneOutcome init-reply.ended (λ M 𝓤 𝓛. init-reply.clauses 𝓛) (λ M 𝓤 𝓛. init-reply.spec 𝓛)
 snjofrask_init_reply-one = record {
   stated = λ M 𝓤 𝓛 mem run. refl;
   one = λ {𝓤 = 𝓤} 𝓛 mem run κs a g x y v w. from-facts 𝓤 (λ p q. (p ∙ sym q, refl));
 }
 
-pub snjofrask_ble_fragment_count-one : OneOutcome ble-fragment-count.ended (λ M 𝓤. ble-fragment-count.clauses 𝓤) (λ M 𝓤. ble-fragment-count.spec 𝓤)
+pub snjofrask_ble_fragment_count-one : OneOutcome ble-fragment-count.ended (λ M 𝓤 𝓛. ble-fragment-count.clauses 𝓛) (λ M 𝓤 𝓛. ble-fragment-count.spec 𝓛)
 snjofrask_ble_fragment_count-one = record {
   stated = λ M 𝓤 𝓛 mem run. refl;
   one = λ {𝓤 = 𝓤} 𝓛 mem run κs a g x y v w. from-facts 𝓤 (λ p q. (p ∙ sym q, refl));
 }
 
-pub snjofrask_ble_write_fragment-one : OneOutcome ble-write-fragment.ended (λ M 𝓤. ble-write-fragment.clauses 𝓤) (λ M 𝓤. ble-write-fragment.spec 𝓤)
+pub snjofrask_ble_write_fragment-one : OneOutcome ble-write-fragment.ended (λ M 𝓤 𝓛. ble-write-fragment.clauses 𝓛) (λ M 𝓤 𝓛. ble-write-fragment.spec 𝓛)
 snjofrask_ble_write_fragment-one = record {
   stated = λ M 𝓤 𝓛 mem run. refl;
   one = λ {𝓤 = 𝓤} 𝓛 mem run κs a g x y v w. from-facts 𝓤 (λ p q. (ap (λ (o : Laying). o.outcome) (p ∙ sym q), λ i. (tt, (tt, (tt, (tt, (((p ∙ sym q) i).buffer, tt)))))));
 }
 
-pub snjofrask_ble_read_fragment-one : OneOutcome ble-read-fragment.ended (λ M 𝓤. ble-read-fragment.clauses 𝓤) (λ M 𝓤. ble-read-fragment.spec 𝓤)
+pub snjofrask_ble_read_fragment-one : OneOutcome ble-read-fragment.ended (λ M 𝓤 𝓛. ble-read-fragment.clauses 𝓛) (λ M 𝓤 𝓛. ble-read-fragment.spec 𝓛)
 snjofrask_ble_read_fragment-one = record {
   stated = λ M 𝓤 𝓛 mem run. refl;
   one = λ {𝓤 = 𝓤} 𝓛 mem run κs a g x y v w. from-facts 𝓤 (λ p q. (ap (λ (o : HostFlattened). o.left.outcome) (p ∙ sym q), λ i. (((p ∙ sym q) i).left.collection, (tt, (tt, (((p ∙ sym q) i).buffer, tt))))));

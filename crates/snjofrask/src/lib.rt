@@ -1,4 +1,5 @@
 // The static library's entries, for C and Rust. Each is thin over the same by value; flags are numbers, of which 0 is not set.
+#![tactic(auto)]
 ghost use Rattle.std.specs.Prelude.{◌≡◌};
 ghost use Rattle.hid.specs.Transport.{step_of};
 ghost use Rattle.hid.specs.MainHid.{main_step_of};

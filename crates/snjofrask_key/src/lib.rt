@@ -1,5 +1,6 @@
 // A static library of its own, for a key with two interfaces: entries for C and Rust. Each is thin over the same by value; flags are numbers, of which 0 is not
 // set. Packets, waits and the host's end are the other library's.
+#![tactic(auto)]
 ghost use Rattle.std.specs.Prelude.{◌≡◌};
 ghost use Rattle.key.specs.SetUp.{key_new_of};
 ghost use Rattle.key.specs.Stepping.{main_key_of, vendor_key_of, main_laid, vendor_laid};

@@ -1,5 +1,6 @@
 // The wait for a touch, after OpenSK's wait_and_respond_busy and check_user_presence (ctap/mod.rs). It knows no transport: while a request waits, packets
 // come here. What waits for sensor and packet, and what sends, is the caller.
+#![tactic(auto)]
 mod responding;
 mod waiting;
 
