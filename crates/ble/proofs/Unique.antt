@@ -14,8 +14,8 @@ use Rattle.ble.specs.contracts.writing.write_fragment as write-fragment
 use Rattle.ble.specs.contracts.reading.read_fragment as read-fragment
 use Rattle.ble.specs.contracts.reading.take_fragment as take-fragment
 
-pub byte_one : OneOutcome byte.ended (λ M 𝓤 𝓛. byte.clauses 𝓛) (λ M 𝓤 𝓛. byte.spec 𝓛)
-byte_one = record {
+pub byte-one : OneOutcome byte.ended (λ M 𝓤 𝓛. byte.clauses 𝓛) (λ M 𝓤 𝓛. byte.spec 𝓛)
+byte-one = record {
   stated = λ M 𝓤 𝓛 mem run. refl;
   one = λ {𝓤 = 𝓤} 𝓛 mem run κs a g x y v w. from-facts 𝓤 (λ p q. (p ∙ sym q, refl));
 }

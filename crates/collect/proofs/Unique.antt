@@ -11,8 +11,8 @@ add_data-one = record {
   one = λ {𝓤 = 𝓤} 𝓛 mem run κs a g x y v w. from-facts 𝓤 (λ p q. (ap (λ (o : Adding). o.answer) (p ∙ sym q), λ i. (((p ∙ sym q) i).message, (tt, (tt, (tt, tt))))));
 }
 
-pub stands_one : OneOutcome stands.ended (λ M 𝓤 𝓛. stands.clauses 𝓛) (λ M 𝓤 𝓛. stands.spec 𝓛)
-stands_one = record {
+pub stands-one : OneOutcome stands.ended (λ M 𝓤 𝓛. stands.clauses 𝓛) (λ M 𝓤 𝓛. stands.spec 𝓛)
+stands-one = record {
   stated = λ M 𝓤 𝓛 mem run. refl;
   one = λ {𝓤 = 𝓤} 𝓛 mem run κs a g x y v w. from-facts 𝓤 (λ p q. (p ∙ sym q, refl));
 }

@@ -39,7 +39,7 @@ fn put(message: &mut [u8], at: usize, data: &[u8])
     requires { at + length «data».now ≤ length message.old }
     ensures { message.new ≡ take at message.old ++ («data».now ++ drop (at + length «data».now) message.old) }
 {
-    bytes::copy(data, &mut message[at..]);
+    message[at..at + data.len()].copy_from_slice(data);
 }
 
 // Whether the lengths and the number due of a message that is half there make sense. One of 57 bytes or fewer is never half there.

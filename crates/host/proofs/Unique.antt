@@ -20,8 +20,8 @@ new-one = record {
   one = λ {𝓤 = 𝓤} 𝓛 mem run κs a g x y v w. from-facts 𝓤 (λ p q. (p ∙ sym q, refl));
 }
 
-pub read_one : OneOutcome read.ended (λ M 𝓤 𝓛. read.clauses 𝓛) (λ M 𝓤 𝓛. read.spec 𝓛)
-read_one = record {
+pub read-one : OneOutcome read.ended (λ M 𝓤 𝓛. read.clauses 𝓛) (λ M 𝓤 𝓛. read.spec 𝓛)
+read-one = record {
   stated = λ M 𝓤 𝓛 mem run. refl;
   one = λ {𝓤 = 𝓤} 𝓛 mem run κs a g x y v w. from-facts 𝓤 (λ p q. (ap (λ (o : Reading). o.progress) (p ∙ sym q), λ i. (tt, (tt, (tt, (((p ∙ sym q) i).buffer, tt))))));
 }

@@ -33,8 +33,8 @@ new-one = record {
   one = λ {𝓤 = 𝓤} 𝓛 mem run κs a g x y v w. from-facts 𝓤 (λ p q. (p ∙ sym q, refl));
 }
 
-pub next_one : OneOutcome next.ended (λ M 𝓤 𝓛. next.clauses 𝓛) (λ M 𝓤 𝓛. next.spec 𝓛)
-next_one = record {
+pub next-one : OneOutcome next.ended (λ M 𝓤 𝓛. next.clauses 𝓛) (λ M 𝓤 𝓛. next.spec 𝓛)
+next-one = record {
   stated = λ M 𝓤 𝓛 mem run. refl;
   one = λ {𝓤 = 𝓤} 𝓛 mem run κs a g x y v w. from-facts 𝓤 (λ p q. (p.answers ∙ sym q.answers, λ i. ((p.moves ∙ sym q.moves) i, ((p.writes ∙ sym q.writes) i, tt))));
 }
