@@ -1,0 +1,17 @@
+use Prim.Native.Nat.{ℕ, ◌+◌, ◌-◌, ◌≤◌}
+use native.Mathlib.Omega.{arith}
+use mathlib.Core.Path.{◌≡◌, refl, sym, ap, ◌∙◌}
+use lib.Bits.{bit_or}
+use lib.ListN.{length, drop}
+use Rattle.ctaphid.proofs.Commands.{vendor-range}
+use Rattle.known.specs.Vendor.{all_vendor, bits_with, bits_of}
+use Rattle.known.specs.declared.vendor.Listed.TheVariants.{Bits}
+use Rattle.known.proofs.Bits.{vendor-next, vendor-not, vendor-end, bits-next, bits-end, listed-all, listed-not}
+use Rattle.std.proofs.Common.{rules}
+use Rattle.known.proofs.vendor.read_list.Given as goal
+
+abbrev pub invariant-loop-i : goal.invariant-loop-i
+invariant-loop-i l = (l.i ≤ length l.numbers) × (all_vendor (drop l.i l.numbers) ≡ all_vendor l.numbers) × (bits_with l.bits (drop l.i l.numbers) ≡ bits_of l.numbers)
+
+abbrev pub decreases-loop-i : goal.decreases-loop-i
+decreases-loop-i l = length l.numbers - l.i
