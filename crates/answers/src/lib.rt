@@ -8,7 +8,7 @@ pub use payloads::payload;
 pub use replies::error_message;
 
 // A payload is the first len bytes of the message buffer or of the short reply buffer.
-#[derive(Drop)]
+#[derive(Clone, Copy)]
 pub enum Answer {
     Refused(u8),
     Nothing,

@@ -3,7 +3,7 @@ ghost use Rattle.std.specs.Prelude.{◌≡◌};
 ghost use Rattle.ctaphid.specs.Bluetooth.{command_byte, is_command};
 ghost use Rattle.ble.specs.Numbers.{command_meant};
 
-#[derive(Drop)]
+#[derive(Clone, Copy)]
 pub enum BleCommand {
     Ping,
     Keepalive,

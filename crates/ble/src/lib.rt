@@ -13,21 +13,21 @@ pub use reading::{read_fragment, take_fragment};
 pub use writing::{fragment_count, write_fragment};
 
 // How many fragments a payload takes.
-#[derive(Drop)]
+#[derive(Clone, Copy)]
 pub enum Count {
     Fragments(usize),
     Refused(u8),
 }
 
 // How many bytes of the buffer a fragment that was written takes. A refused call leaves the buffer as it came.
-#[derive(Drop)]
+#[derive(Clone, Copy)]
 pub enum Written {
     Fragment(usize),
     Refused(u8),
 }
 
 // What a fragment brings about. A message's payload is the first len bytes of the buffer, and its command byte is as it stood.
-#[derive(Drop)]
+#[derive(Clone, Copy)]
 pub enum Answer {
     Refused(u8),
     Waiting,
@@ -35,7 +35,7 @@ pub enum Answer {
 }
 
 // The collection after a fragment, and the answer. The collection is the host's, of numbers alone: here cmd is the whole byte.
-#[derive(Drop)]
+#[derive(Clone, Copy)]
 pub struct Progress {
     pub collection: Collection,
     pub answer: Answer,

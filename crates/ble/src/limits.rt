@@ -2,7 +2,7 @@
 ghost use Rattle.std.specs.Prelude.{◌≡◌};
 ghost use Rattle.ctaphid.specs.Bluetooth.{smallest_fragment, largest_fragment, longest_message, is_size};
 
-#[derive(Drop)]
+#[derive(Clone, Copy)]
 pub struct BleLimits;
 
 impl BleLimits {

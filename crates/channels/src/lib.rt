@@ -10,14 +10,14 @@ pub use locking::lock;
 pub use validity::{has_valid_channel, is_allocated, is_shut, not_valid};
 
 // How many channels are allocated after an INIT, and the answer.
-#[derive(Drop)]
+#[derive(Clone, Copy)]
 pub struct Allocated {
     pub allocated: u32,
     pub answer: Answer,
 }
 
 // Until when, and by whom, the device is locked after a LOCK, and the answer.
-#[derive(Drop)]
+#[derive(Clone, Copy)]
 pub struct Locked {
     pub lock: u64,
     pub locked: u32,

@@ -6,7 +6,7 @@ ghost use Rattle.collect.specs.Standing.{is_standing};
 
 use packet::Refusal;
 
-#[derive(Drop)]
+#[derive(Clone, Copy)]
 pub enum Added {
     // So many bytes are there, and more are due.
     Waiting(usize),

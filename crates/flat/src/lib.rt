@@ -24,7 +24,7 @@ pub use waiting::{
 };
 
 // Which fields of an outcome say something, by its kind. The others are 0.
-#[derive(Drop)]
+#[derive(Clone, Copy)]
 pub struct Kind;
 
 impl Kind {
@@ -65,7 +65,7 @@ impl Kind {
 }
 
 #[repr(C)]
-#[derive(Drop)]
+#[derive(Clone, Copy)]
 pub struct Outcome {
     pub len: usize,
     pub cid: u32,
@@ -115,7 +115,7 @@ pub fn outcome_of(answer: Answer) -> Outcome
 
 // ---- the transport and the device
 
-#[derive(Drop)]
+#[derive(Clone, Copy)]
 pub struct FlatHid {
     pub hid: CtapHid,
     pub outcome: Outcome,
@@ -138,7 +138,7 @@ pub fn transport_step(
     FlatHid { hid: next, outcome }
 }
 
-#[derive(Drop)]
+#[derive(Clone, Copy)]
 pub struct FlatMain {
     pub hid: MainHid,
     pub outcome: Outcome,
@@ -186,7 +186,7 @@ pub fn is_winking(hid: MainHid, time: u64) -> u8
 
 // ---- set-up: a refused one leaves the state as it came
 
-#[derive(Drop)]
+#[derive(Clone, Copy)]
 pub struct MadeHid {
     pub hid: CtapHid,
     pub refusal: u8,
@@ -204,7 +204,7 @@ pub fn transport_new(old: CtapHid, max: usize, u2f: u8, vendor: &[u8]) -> MadeHi
     }
 }
 
-#[derive(Drop)]
+#[derive(Clone, Copy)]
 pub struct MadeMain {
     pub hid: MainHid,
     pub refusal: u8,
@@ -298,7 +298,7 @@ fn host_outcome(answer: host::Answer) -> Outcome
     }
 }
 
-#[derive(Drop)]
+#[derive(Clone, Copy)]
 pub struct FlatCollection {
     pub collection: Collection,
     pub outcome: Outcome,
@@ -324,7 +324,7 @@ pub fn host_read(
 
 // The fields of a reply to INIT, and how many bytes follow: they begin at byte 17. refusal is 0, or 11, and then all else is 0.
 #[repr(C)]
-#[derive(Drop)]
+#[derive(Clone, Copy)]
 pub struct InitOutcome {
     pub cid: u32,
     pub protocol: u8,

@@ -6,7 +6,7 @@ ghost use Rattle.flat.specs.TellingWaits.{presence_told, received_told, sent_tol
 use touch::{Begun, Elapsed, RecvStatus, UserPresence, Wait};
 
 // What the touch sensor said. Any other number is taken for FAILED.
-#[derive(Drop)]
+#[derive(Clone, Copy)]
 pub struct Presence;
 
 impl Presence {
@@ -18,7 +18,7 @@ impl Presence {
 }
 
 // What a step makes of a wait.
-#[derive(Drop)]
+#[derive(Clone, Copy)]
 pub struct Ending;
 
 impl Ending {
@@ -39,7 +39,7 @@ impl Ending {
 
 // A message of one byte.
 #[repr(C)]
-#[derive(Drop)]
+#[derive(Clone, Copy)]
 pub struct Sent {
     pub interface: u32,
     pub cid: u32,
@@ -50,7 +50,7 @@ pub struct Sent {
 
 // The first count of the two are to be sent, in this order. The others are 0.
 #[repr(C)]
-#[derive(Drop)]
+#[derive(Clone, Copy)]
 pub struct WaitOutcome {
     pub first: Sent,
     pub second: Sent,
@@ -62,7 +62,7 @@ pub struct WaitOutcome {
 
 // ---- beginning: a refused one leaves the wait as it came
 
-#[derive(Drop)]
+#[derive(Clone, Copy)]
 pub struct MadeWait {
     pub wait: Wait,
     pub refusal: u8,
@@ -93,7 +93,7 @@ pub fn wait_elapsed(wait: Wait, time: u64) -> u8
 
 // ---- a step
 
-#[derive(Drop)]
+#[derive(Clone, Copy)]
 pub struct FlatWait {
     pub wait: Wait,
     pub outcome: WaitOutcome,

@@ -12,7 +12,7 @@ use key::{Key, KeyReady};
 
 // ---- set-up: a refused one leaves the key as it came
 
-#[derive(Drop)]
+#[derive(Clone, Copy)]
 pub struct MadeKey {
     pub key: Key,
     pub refusal: u8,

@@ -22,7 +22,7 @@ pub use soundness::is_sound;
 // The transport. Channels 1 to allocated are allocated; locked holds the lock until the time lock; u2f is 0 for a key without; vendor has a bit for each of the
 // vendor's 64 numbers, the lowest for 64; still_due continuations are still due, for a light to read. spare is ignored, and stays as it is.
 #[repr(C)]
-#[derive(Drop)]
+#[derive(Clone, Copy)]
 pub struct CtapHid {
     pub assembler: MessageAssembler,
     pub lock: u64,
@@ -38,27 +38,27 @@ pub struct CtapHid {
 
 // The transport and the wink, which runs until the time wink.
 #[repr(C)]
-#[derive(Drop)]
+#[derive(Clone, Copy)]
 pub struct MainHid {
     pub hid: CtapHid,
     pub wink: u64,
 }
 
 // A fresh transport, or a refusal.
-#[derive(Drop)]
+#[derive(Clone, Copy)]
 pub enum Ready {
     Hid(CtapHid),
     Refused(u8),
 }
 
-#[derive(Drop)]
+#[derive(Clone, Copy)]
 pub enum MainReady {
     Hid(MainHid),
     Refused(u8),
 }
 
 // Whether a lock, or a wink, runs.
-#[derive(Drop)]
+#[derive(Clone, Copy)]
 pub enum Running {
     Yes,
     No,
@@ -66,14 +66,14 @@ pub enum Running {
 }
 
 // The transport after a step, and the answer.
-#[derive(Drop)]
+#[derive(Clone, Copy)]
 pub struct Stepped {
     pub hid: CtapHid,
     pub answer: Answer,
 }
 
 // The device after a step, and the answer.
-#[derive(Drop)]
+#[derive(Clone, Copy)]
 pub struct MainStepped {
     pub hid: MainHid,
     pub answer: Answer,

@@ -10,7 +10,7 @@ pub use init::{init_reply, init_rest};
 // A reply that is being collected, as numbers without padding, so that one type serves Rattle, Rust and C. len is the declared length, and 0 where no reply
 // is begun: a begun one has more than 57 bytes.
 #[repr(C)]
-#[derive(Drop)]
+#[derive(Clone, Copy)]
 pub struct Collection {
     pub len: u16,
     pub taken: u16,
@@ -19,7 +19,7 @@ pub struct Collection {
 }
 
 // What a packet brings about. A reply's payload is the first len bytes of the buffer, and its command number is as it stood.
-#[derive(Drop)]
+#[derive(Clone, Copy)]
 pub enum Answer {
     Refused(u8),
     Ignored,
@@ -29,14 +29,14 @@ pub enum Answer {
 }
 
 // The collection after a packet, and the answer.
-#[derive(Drop)]
+#[derive(Clone, Copy)]
 pub struct Progress {
     pub collection: Collection,
     pub answer: Answer,
 }
 
 // What a reply to INIT tells, but for the nonce.
-#[derive(Drop)]
+#[derive(Clone, Copy)]
 pub enum InitAnswer {
     Refused(u8),
     Fields {
@@ -50,7 +50,7 @@ pub enum InitAnswer {
 }
 
 // The nonce stands beside, as no enum holds an array. It is 0 where the reply is refused.
-#[derive(Drop)]
+#[derive(Clone, Copy)]
 pub struct InitReply {
     pub nonce: [u8; 8],
     pub answer: InitAnswer,

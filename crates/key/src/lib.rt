@@ -12,7 +12,7 @@ use hid::{MainHid, MessageAssembler};
 
 // What is vendor's own, as in a transport. spare is ignored, and stays as it is.
 #[repr(C)]
-#[derive(Drop)]
+#[derive(Clone, Copy)]
 pub struct VendorHid {
     pub assembler: MessageAssembler,
     pub lock: u64,
@@ -25,14 +25,14 @@ pub struct VendorHid {
 
 // Both, without padding. The last time, U2F and the vendor commands are main's, and serve both.
 #[repr(C)]
-#[derive(Drop)]
+#[derive(Clone, Copy)]
 pub struct Key {
     pub main: MainHid,
     pub vendor: VendorHid,
 }
 
 // A fresh key, or a refusal.
-#[derive(Drop)]
+#[derive(Clone, Copy)]
 pub enum KeyReady {
     Key(Key),
     Refused(u8),

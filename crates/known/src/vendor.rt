@@ -6,7 +6,7 @@ ghost use Rattle.known.specs.Vendor.{vendor_of, bit_of, listed_of};
 use packet::CtapHidCommand;
 
 // A list's bits, or that it has a number that isn't the vendor's.
-#[derive(Drop)]
+#[derive(Clone, Copy)]
 pub enum Listed {
     Bits(u64),
     Foreign,

@@ -3,7 +3,7 @@ ghost use Rattle.std.specs.Prelude.{◌≡◌};
 ghost use Rattle.ctaphid.specs.Capabilities.{bit, capabilities};
 ghost use Rattle.packet.specs.Numbers.{capability_meant};
 
-#[derive(Drop)]
+#[derive(Clone, Copy)]
 pub enum Capability {
     Wink,
     Cbor,

@@ -3,7 +3,7 @@ ghost use Rattle.std.specs.Prelude.{◌≡◌};
 ghost use Rattle.ctaphid.specs.Commands.{command_of, number, is_vendor};
 ghost use Rattle.packet.specs.Numbers.{command_meant};
 
-#[derive(Drop)]
+#[derive(Clone, Copy)]
 pub enum CtapHidCommand {
     Msg,
     Cbor,

@@ -3,7 +3,7 @@ ghost use Rattle.std.specs.Prelude.{◌≡◌};
 ghost use Rattle.ctaphid.specs.Errors.{code};
 ghost use Rattle.packet.specs.Numbers.{error_meant};
 
-#[derive(Drop)]
+#[derive(Clone, Copy)]
 pub enum CtapHidError {
     InvalidCmd,
     InvalidPar,

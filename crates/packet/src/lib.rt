@@ -17,7 +17,7 @@ pub use limits::Limits;
 pub use refusal::Refusal;
 
 // A packet's kind and numbers. Its data comes from packet_data.
-#[derive(Drop)]
+#[derive(Clone, Copy)]
 pub enum ProcessedPacket {
     InitPacket { cid: u32, cmd: u8, len: usize },
     ContinuationPacket { cid: u32, seq: u8 },
@@ -38,7 +38,7 @@ impl ProcessedPacket {
     }
 }
 
-#[derive(Drop)]
+#[derive(Clone, Copy)]
 pub enum Reading {
     Packet(ProcessedPacket),
     Refused(u8),

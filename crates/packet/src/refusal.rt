@@ -3,7 +3,7 @@ ghost use Rattle.std.specs.Prelude.{◌≡◌};
 ghost use Rattle.ctaphid.specs.Refusals.{refusal_number};
 ghost use Rattle.packet.specs.Numbers.{refusal_meant};
 
-#[derive(Drop)]
+#[derive(Clone, Copy)]
 pub enum Refusal {
     PacketSize,
     ShortBuffer,

@@ -5,7 +5,7 @@ mod assembler;
 // A transaction, as numbers without padding, so that one type serves Rattle, Rust and C. A timer is its deadline, 0 when unset. len is the declared length,
 // and 0 where there is no transaction.
 #[repr(C)]
-#[derive(Drop)]
+#[derive(Clone, Copy)]
 pub struct MessageAssembler {
     pub deadline: u64,
     pub cid: u32,
@@ -16,7 +16,7 @@ pub struct MessageAssembler {
 }
 
 // What a packet brings about: nothing yet, an error on the packet's channel, or a whole message at the front of the message buffer.
-#[derive(Drop)]
+#[derive(Clone, Copy)]
 pub enum Received {
     Refused(u8),
     Nothing,
@@ -25,7 +25,7 @@ pub enum Received {
 }
 
 // The transaction after a packet, and what the packet brings about.
-#[derive(Drop)]
+#[derive(Clone, Copy)]
 pub struct Assembled {
     pub assembler: MessageAssembler,
     pub received: Received,

@@ -1,0 +1,6 @@
+use Rattle.host.proofs.Fields.{fields-are}
+use Rattle.std.proofs.Common.{rules}
+use Rattle.host.proofs.init.fields.Goals as goal
+
+pub returns : goal.returns
+returns c = search fields-are

@@ -1,0 +1,15 @@
+use Prim.Native.Nat.{◌<◌}
+use native.Mathlib.Omega.{arith}
+use Rattle.ctaphid.proofs.Tests.{tests}
+use Rattle.host.proofs.Receiving.{hearing, waits-low}
+use Rattle.std.proofs.Common.{rules}
+use Rattle.host.proofs.reading.gather.Goals as goal
+
+pub returns-in-Waiting : goal.returns-in-Waiting
+returns-in-Waiting c = search (tests, hearing)
+
+pub returns-in-Whole : goal.returns-in-Whole
+returns-in-Whole c = search (tests, hearing)
+
+pub returns-in-Refused : goal.returns-in-Refused
+returns-in-Refused c = search (tests, hearing)
