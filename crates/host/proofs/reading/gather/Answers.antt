@@ -5,6 +5,11 @@ use Rattle.host.proofs.Receiving.{hearing, waits-low}
 use Rattle.std.proofs.Common.{rules}
 use Rattle.host.proofs.reading.gather.Goals as goal
 
+pub overflow_cast-next : goal.overflow_cast-next
+overflow_cast-next c =
+    let low : c.in-Waiting.n < c.args.collection.len = search waits-low in
+    omega arith
+
 pub returns-in-Waiting : goal.returns-in-Waiting
 returns-in-Waiting c = search (tests, hearing)
 
