@@ -84,7 +84,7 @@ fn lay(size: usize, head: &[u8], data: &[u8], buffer: &mut [u8]) -> usize
     requires { (length head.now ≤ size) × (size ≤ length buffer.old) }
     ensures { left (Written.Fragment result) buffer.new ≡ put (head.now ++ take (size - length head.now) «data».now) buffer.old }
 {
-    bytes::copy(head, buffer);
+    buffer[..head.len()].copy_from_slice(head);
     match collect::add_data(buffer, head.len(), size, data) {
         Added::Waiting(n) => n,
         Added::Whole => size,

@@ -5,7 +5,7 @@ use mathlib.Core.Path.{◌≡◌, refl, sym, ap, ◌∙◌}
 use mathlib.Core.List.{List, [], ◌∷◌, ◌++◌, append_assoc}
 use mathlib.Core.Bool.{Bool, true, false}
 use borrow.Author.Tests.{lt-ltb, le-ltb}
-use borrow.Rule.Slice.PartMut.{put_mid}
+use borrow.Rule.Slice.PartMut.{put_mid, post_of}
 use lib.Dec.{eqb}
 use lib.ListN.{length, take, drop, length-append}
 use lib.Seq.{take-length, take_at, drop-append-add, drop-drop}
@@ -28,17 +28,14 @@ use Rattle.channels.specs.declared.Allocated.{Allocated}
 use Rattle.channels.specs.Allocating.{Allocating, having, allocating, allocated_by, init_of}
 
 -- k bytes copied to the front, and others right after them
-pub copied-twice : (k : ℕ) (old first rest l l' : List ℕ) → length first ≡ k → k ≤ length old → l ≡ take (length first) first ++ drop (length first) old
-    → l' ≡ take (length rest) rest ++ drop (length rest) (take (length l - k) (drop k l))
-    → put_mid k (length l - k) l l' ≡ front (first ++ rest) old
-copied-twice k old first rest l l' size h e e' =
-    let is : l ≡ first ++ drop k old = rw (take-length, size) at e in
-    let long : k ≤ length l = omega (arith, simp length-append at (ap length is)) in
+pub copied-twice : (k : ℕ) (old first rest l : List ℕ) → length first ≡ k → k ≤ length old → l ≡ first ++ drop k old → put_mid k (length rest) l rest ≡ front (first ++ rest) old
+copied-twice k old first rest l size h is =
     let start : take k l ≡ first = ap (take k) is ∙ take_at first (drop k old) k size in
     let past : drop (k + length rest) l ≡ drop (k + length rest) old =
     ap (drop (k + length rest)) is ∙ (ap (λ (n : ℕ). drop (n + length rest) (first ++ drop k old)) (sym size) ∙ (drop-append-add first (drop k old) (length rest) ∙ drop-drop (length rest) k old)) in
     let sum : length (first ++ rest) ≡ k + length rest = simp (length-append, size) in
-    copied_at k l rest l' long e' ∙ rw (start, past, sum, append_assoc)
+    let behind : post_of k (length rest) l ≡ drop (k + length rest) l = drop-drop (length rest) k l in
+    rw (behind, start, past, sum, append_assoc)
 
 -- ---- the cases
 module _ (n : ℕ) (u2f : Bool) (c : ℕ) (nonce r : List ℕ) where

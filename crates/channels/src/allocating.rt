@@ -93,6 +93,6 @@ fn put_init(nonce: &[u8], cid: u32, capabilities: u8, reply: &mut [u8])
         DEVICE_VERSION_BUILD,
         capabilities,
     ];
-    bytes::copy(nonce, reply);
-    bytes::copy(&rest, &mut reply[8..]);
+    reply[..8].copy_from_slice(nonce);
+    reply[8..17].copy_from_slice(&rest);
 }

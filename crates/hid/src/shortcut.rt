@@ -96,6 +96,6 @@ fn put_block(message: &mut [u8], at: usize, data: &[u8])
     ensures { message.new ≡ take at message.old ++ («data».now ++ drop (at + length «data».now) message.old) }
 {
     let mut block = [0; 59];
-    bytes::copy(data, &mut block);
-    bytes::copy(&block, &mut message[at..]);
+    block.copy_from_slice(data);
+    message[at..at + 59].copy_from_slice(&block);
 }
