@@ -58,20 +58,16 @@ module _ (last : ℕ) (x : Stepped) (r : List ℕ) where
   unfolding finished_by
   finish-refused is = subst (λ (a : Answer). serving (record { hid = with_last x.hid last; answer = a }) r ≡ finished_by a last x.hid r) (sym is) refl
 
-  pub finish-through : IsOf (1 ∷ 3 ∷ 4 ∷ []) x.answer → serving x r ≡ finished_of last x r
+  pub finish-through : ((n : ℕ) → x.answer ≡ Refused n → ⊥) → ((c : ℕ) (cmd : CtapHidCommand) (len : ℕ) → x.answer ≡ Message c cmd len → ⊥) → serving x r ≡ finished_of last x r
   unfolding finished_by
   finish-through = go x.answer
     where
-      go : (a : Answer) → IsOf (1 ∷ 3 ∷ 4 ∷ []) a → serving (record { hid = x.hid; answer = a }) r ≡ finished_by a last x.hid r
-      go (Refused n) (inl e) = absurd (omega (arith, e))
-      go (Refused n) (inr (inl e)) = absurd (omega (arith, e))
-      go (Refused n) (inr (inr e)) = absurd (omega (arith, e))
-      go Nothing h = refl
-      go (Message c cmd len) (inl e) = absurd (omega (arith, e))
-      go (Message c cmd len) (inr (inl e)) = absurd (omega (arith, e))
-      go (Message c cmd len) (inr (inr e)) = absurd (omega (arith, e))
-      go (Echo c cmd len) h = refl
-      go (Reply c cmd len) h = refl
+      go : (a : Answer) → ((n : ℕ) → a ≡ Refused n → ⊥) → ((c : ℕ) (cmd : CtapHidCommand) (len : ℕ) → a ≡ Message c cmd len → ⊥) → serving (record { hid = x.hid; answer = a }) r ≡ finished_by a last x.hid r
+      go (Refused n) f g = absurd (f n refl)
+      go Nothing f g = refl
+      go (Message c cmd len) f g = absurd (g c cmd len refl)
+      go (Echo c cmd len) f g = refl
+      go (Reply c cmd len) f g = refl
 
   module _ {cid : ℕ} {cmd : CtapHidCommand} {len : ℕ} (is : x.answer ≡ Message cid cmd len) (b : Bool) (e : b ≡ is_strange x.hid.u2f cmd) where
     out : finished_of last x r ≡ pick (is_strange x.hid.u2f cmd) (saying x.hid (laid_of (error cid InvalidCmd) r)) (serving (record { hid = x.hid; answer = Message cid cmd len }) r)

@@ -72,10 +72,10 @@ module _ (k : Key) where
   abbrev MeetsMain : CtapHid → Type 0
   MeetsMain own = Meets k.main.hid k.main.wink (is_key_sound k) own
 
-  pub main-quiet : (v : CtapHid) → v ≡ vendor_by k.vendor k.main.hid.last → (b : Bool) → b ≡ is_quiet v 0 → not b ≡ false → (own : CtapHid) → own ≡ k.main.hid → MeetsMain own
+  pub main-quiet : (v : CtapHid) → v ≡ vendor_by k.vendor k.main.hid.last → (b : Bool) → b ≡ is_quiet v 0 → b ≡ true → (own : CtapHid) → own ≡ k.main.hid → MeetsMain own
   unfolding is_key_sound is_quiet
   main-quiet v is b e f own same =
-      let quiet : is_quiet (vendor_in k) 0 ≡ true = ap (λ (s : CtapHid). is_quiet s 0) (sym is) ∙ (sym e ∙ not-false b f) in
+      let quiet : is_quiet (vendor_in k) 0 ≡ true = ap (λ (s : CtapHid). is_quiet s 0) (sym is) ∙ (sym e ∙ f) in
       meets-quiet k.main.hid k.main.wink (vendor_in k) 0 refl quiet own same
 
   pub main-beside : (last : ℕ) → last ≡ last_beside (vendor_in k) 0 k.main.hid.lock → (own : CtapHid) → own ≡ with_last k.main.hid last → MeetsMain own
@@ -85,10 +85,10 @@ module _ (k : Key) where
   abbrev MeetsVendor : CtapHid → Type 0
   MeetsVendor own = Meets (vendor_in k) 0 (is_key_sound k) own
 
-  pub vendor-quiet : (v : CtapHid) → v ≡ vendor_in k → (b : Bool) → b ≡ is_quiet k.main.hid k.main.wink → not b ≡ false → (own : CtapHid) → own ≡ v → MeetsVendor own
+  pub vendor-quiet : (v : CtapHid) → v ≡ vendor_in k → (b : Bool) → b ≡ is_quiet k.main.hid k.main.wink → b ≡ true → (own : CtapHid) → own ≡ v → MeetsVendor own
   vendor-quiet v is b e f own same =
       subst (λ (sound : Bool). Meets (vendor_in k) 0 sound own) (sym (sound-by-vendor k))
-      (meets-quiet (vendor_in k) 0 k.main.hid k.main.wink refl (sym e ∙ not-false b f) own (same ∙ is))
+      (meets-quiet (vendor_in k) 0 k.main.hid k.main.wink refl (sym e ∙ f) own (same ∙ is))
 
   pub vendor-beside : (v : CtapHid) → v ≡ vendor_in k → (last : ℕ) → last ≡ last_beside k.main.hid k.main.wink k.vendor.lock → (own : CtapHid) → own ≡ with_last v last → MeetsVendor own
   vendor-beside v is last e own same =

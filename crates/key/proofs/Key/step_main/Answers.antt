@@ -1,0 +1,12 @@
+use Rattle.key.specs.Soundness.{is_key_sound}
+use Rattle.key.proofs.Fitting.{Meets, meeting}
+use Rattle.key.proofs.Steps.{main-stepped}
+use Rattle.key.proofs.Key.step_main.Goals as goal
+use Rattle.key.proofs.Key.step_main.Goals.{then-not-is_quiet, else-not-is_quiet}
+
+pub returns : goal.returns
+returns c =
+    let k = c.args.self in
+    -- where the branches meet
+    let met : Meets k.main.hid k.main.wink (is_key_sound k) c.if-not-is_quiet.own = elim c.if-not-is_quiet.branch [ then-not-is_quiet w ↦ search meeting | else-not-is_quiet w ↦ search meeting ] in
+    search (met, main-stepped)
