@@ -83,10 +83,7 @@ module _ (size cmd : ℕ) (payload : List ℕ) (index : ℕ) (m : List ℕ) (b :
               sym (simp (ap not (sym is) ∙ within, le-ltb (length m) size room, ap not (sym known) ∙ one, le-ltb 65535 (length payload) short, lt-leb (length (fragments_written size cmd payload)) index (omega (arith, many))))
 
 -- ---- a head and data put into a buffer
-module _ (size : ℕ) (head bytes old l : List ℕ) (fits : length head ≤ size) (room : size ≤ length old) (copied : l ≡ take (length head) head ++ drop (length head) old) where
-  l-is : l ≡ head ++ drop (length head) old
-  l-is = rw take-length at copied
-
+module _ (size : ℕ) (head bytes old l : List ℕ) (fits : length head ≤ size) (room : size ≤ length old) (l-is : l ≡ head ++ drop (length head) old) where
   head_of : take (length head) l ≡ head
   head_of = ap (take (length head)) l-is ∙ take-append_seam head (drop (length head) old)
 
