@@ -1,5 +1,6 @@
 // A message cut into packets, after OpenSK's hid/send.rs.
 #![tactic(auto)]
+
 mod sender;
 
 ghost use Rattle.std.specs.Prelude.{◌≡◌, [], ◌∷◌, ◌++◌, ◌+◌, ◌-◌, ◌/◌, ◌*◌, ◌≤◌, ◌<◌, length, take, drop, replicate, get_or, eqb};
@@ -130,7 +131,7 @@ fn init_packet(cid: u32, cmd: u8, len: usize, packet: &mut [u8])
     ensures { packet.new ≡ written (initialization cid cmd len (drop 7 packet.old)) }
 {
     let front = head(cid, cmd + 0x80, (len / 0x100) as u8, (len % 0x100) as u8);
-    bytes::copy(&front, packet);
+    packet[..7].copy_from_slice(&front);
 }
 
 fn continuation_packet(cid: u32, index: usize, packet: &mut [u8])
@@ -139,7 +140,7 @@ fn continuation_packet(cid: u32, index: usize, packet: &mut [u8])
 {
     let seq = index - 1;
     let front = head(cid, seq as u8, 0, 0);
-    bytes::copy(&front[..5], packet);
+    packet[..5].copy_from_slice(&front[..5]);
 }
 
 // The channel and the three bytes after it, of which a continuation has the first.
@@ -166,9 +167,9 @@ fn consume_data(packet: &mut [u8], front: usize, data: &[u8])
     let room = packet.len() - front;
     if data.len() < room {
         clear(packet);
-        bytes::copy(data, &mut packet[front..]);
+        packet[front..front + data.len()].copy_from_slice(data);
     } else {
-        bytes::copy(&data[..room], &mut packet[front..]);
+        packet[front..].copy_from_slice(&data[..room]);
     }
 }
 
