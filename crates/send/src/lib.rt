@@ -13,7 +13,7 @@ use packet::{CtapHidCommand, Limits, Refusal};
 pub use sender::{Admission, Next, Sender, Started};
 
 // How many packets a payload takes.
-#[derive(Drop)]
+#[derive(Clone, Copy)]
 pub enum Count {
     Packets(usize),
     Refused(u8),
@@ -30,7 +30,7 @@ pub fn packet_count(len: usize) -> Count
 }
 
 // Whether a packet was written. A refused call leaves the packet as it came.
-#[derive(Drop)]
+#[derive(Clone, Copy)]
 pub enum Written {
     Packet,
     Refused(u8),

@@ -5,7 +5,7 @@ ghost use Rattle.send.specs.Sender.{admitted, started_of, has_more, sent, sent_o
 use crate::{Written, packets_in, write_packet};
 use packet::{Limits, Refusal};
 
-#[derive(Drop)]
+#[derive(Clone, Copy)]
 pub struct Sender<'a> {
     payload: &'a [u8],
     cid: u32,
@@ -14,21 +14,21 @@ pub struct Sender<'a> {
 }
 
 // Whether a message can be sent.
-#[derive(Drop)]
+#[derive(Clone, Copy)]
 pub enum Admission {
     Admitted,
     Refused(u8),
 }
 
 // A sender, and whether its message can be sent. One that can't has no packet.
-#[derive(Drop)]
+#[derive(Clone, Copy)]
 pub struct Started<'a> {
     pub sender: Sender<'a>,
     pub answer: Admission,
 }
 
 // What a sender answers.
-#[derive(Drop)]
+#[derive(Clone, Copy)]
 pub enum Next {
     Packet,
     NoneLeft,
@@ -70,7 +70,7 @@ impl<'a> Sender<'a> {
 }
 
 // The answer, and the place of the next packet.
-#[derive(Drop)]
+#[derive(Clone, Copy)]
 pub(crate) struct Moved {
     pub answer: Next,
     pub next: usize,
