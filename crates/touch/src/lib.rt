@@ -1,6 +1,7 @@
 // The wait for a touch, after OpenSK's wait_and_respond_busy and check_user_presence (ctap/mod.rs). It knows no transport: while a request waits, packets
 // come here. What waits for sensor and packet, and what sends, is the caller.
 #![tactic(auto)]
+
 mod responding;
 mod waiting;
 
@@ -10,7 +11,7 @@ use packet::CtapHidCommand;
 // is the time of its latest step, at first of its beginning, and the request that waits came on this interface and channel. A caller numbers its interfaces as it
 // likes.
 #[repr(C)]
-#[derive(Drop)]
+#[derive(Clone, Copy)]
 pub struct Wait {
     pub deadline: u64,
     pub last: u64,
@@ -19,14 +20,14 @@ pub struct Wait {
 }
 
 // A wait that begins, or why none does.
-#[derive(Drop)]
+#[derive(Clone, Copy)]
 pub enum Begun {
     Wait(Wait),
     Refused(u8),
 }
 
 // Whether the limit has elapsed at a time.
-#[derive(Drop)]
+#[derive(Clone, Copy)]
 pub enum Elapsed {
     No,
     Yes,
@@ -34,7 +35,7 @@ pub enum Elapsed {
 }
 
 // What the touch sensor said.
-#[derive(Drop)]
+#[derive(Clone, Copy)]
 pub enum UserPresence {
     Touched,
     Timeout,
@@ -42,14 +43,14 @@ pub enum UserPresence {
 }
 
 // Whether a packet arrived, and on which interface.
-#[derive(Drop)]
+#[derive(Clone, Copy)]
 pub enum RecvStatus {
     Timeout,
     Received(u32),
 }
 
 // A message of one byte for the caller to send, in one packet.
-#[derive(Drop)]
+#[derive(Clone, Copy)]
 pub enum Sent {
     Nothing,
     Byte {
@@ -61,7 +62,7 @@ pub enum Sent {
 }
 
 // What a step makes of the wait. Failed has the sensor's number.
-#[derive(Drop)]
+#[derive(Clone, Copy)]
 pub enum Ending {
     Refused(u8),
     NotYet,
@@ -72,7 +73,7 @@ pub enum Ending {
 }
 
 // What is to be sent, in this order, and the ending. Where first is nothing, second is too.
-#[derive(Drop)]
+#[derive(Clone, Copy)]
 pub struct Response {
     pub first: Sent,
     pub second: Sent,
@@ -80,7 +81,7 @@ pub struct Response {
 }
 
 // The wait after a step, and the answer.
-#[derive(Drop)]
+#[derive(Clone, Copy)]
 pub struct Responded {
     pub wait: Wait,
     pub response: Response,
