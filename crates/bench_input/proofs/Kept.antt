@@ -6,8 +6,9 @@ use mathlib.Core.List.{List, ◌++◌}
 use borrow.Author.Tests.{lt-ltb, le-ltb}
 use native.Mathlib.Decide.{dec_le}
 use lib.ListN.{length, take, drop, length-append, length-take, length-drop}
-use lib.Seq.{length-take-le, take_all, take-length}
-use Rattle.bytes.specs.Bytes.{index_of, slice}
+use lib.Seq.{length-take-le, take_all}
+use lib.Dec.{eqb}
+use Rattle.std.specs.List.{position_or_len}
 use Rattle.ctaphid.specs.Choice.{pick}
 use Rattle.collect.specs.Adding.{Adding, front, added, add_of}
 use Rattle.collect.specs.declared.Added.{Added}
@@ -81,20 +82,16 @@ module _ (l : List ℕ) (kept : ℕ) (input : List ℕ) (from : ℕ) where
     unfolding pick
     cut-part t = (simp (le-ltb _ _ t)) ∙ cut-here
 
--- ---- the newline that `bytes::scan::find` finds
+-- ---- the newline that is found
 
-module _ (input : List ℕ) (from end : ℕ) (found : end ≡ from + index_of newline (slice from (length input) input)) (within : end ≤ length input) where
-  found_at : end ≡ from + index_of newline (drop from input)
-  unfolding slice
-  found_at = found ∙ ap (λ (l : List ℕ). from + index_of newline (drop from l)) (take-length input)
-
+module _ (input : List ℕ) (from end : ℕ) (found : end ≡ from + position_or_len (λ c. eqb c newline) (drop from input)) (within : end ≤ length input) where
   -- what stands before it is the line's
   pub part-found : take (end - from) (drop from input) ≡ line_from input from
   part-found =
-      let n : end - from ≡ index_of newline (drop from input) = omega (arith, found_at) in
+      let n : end - from ≡ position_or_len (λ c. eqb c newline) (drop from input) = omega (arith, found) in
       ap (λ (k : ℕ). take k (drop from input)) n
 
   pub end-found : end ≡ from + length (line_from input from)
   end-found =
-      let n : length (line_from input from) ≡ index_of newline (drop from input) = simp (length-take, length-drop) (omega (arith, found_at)) in
-      found_at ∙ ap (λ (k : ℕ). from + k) (sym n)
+      let n : length (line_from input from) ≡ position_or_len (λ c. eqb c newline) (drop from input) = simp (length-take, length-drop) (omega (arith, found)) in
+      found ∙ ap (λ (k : ℕ). from + k) (sym n)

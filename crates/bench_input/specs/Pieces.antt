@@ -1,6 +1,6 @@
 -- Input that comes in pieces, cut into lines. Assumes nothing.
-use Rattle.std.specs.Prelude.{ℕ, ◌+◌, min, List, [], ◌∷◌, ◌++◌, length, take, drop, ltb}
-use Rattle.bytes.specs.Bytes.{index_of}
+use Rattle.std.specs.Prelude.{ℕ, ◌+◌, min, List, [], ◌∷◌, ◌++◌, length, take, drop, ltb, ◌==◌}
+use Rattle.std.specs.List.{position_or_len}
 use Rattle.ctaphid.specs.Choice.{pick, refusing}
 use Rattle.collect.specs.Adding.{front}
 use Rattle.bench_input.specs.declared.Cut.{Cut}
@@ -12,7 +12,7 @@ newline = 10
 
 -- what a piece of input has of a line from a place on: up to a newline, or all
 abbrev pub line_from : (input : List ℕ) (from : ℕ) → List ℕ
-line_from input from = take (index_of newline (drop from input)) (drop from input)
+line_from input from = take (position_or_len (λ c. c == newline) (drop from input)) (drop from input)
 
 -- how much of the line is kept, and the buffer
 pub record Keeping : Type 0 where

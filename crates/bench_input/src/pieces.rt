@@ -1,6 +1,7 @@
 // Input cut into lines, piece by piece.
-ghost use Rattle.std.specs.Prelude.{◌≡◌, ◌≤◌, length};
-ghost use Rattle.bench_input.specs.Pieces.{keeping, keep_of, cutting, cut_of};
+ghost use Rattle.std.specs.Prelude.{◌≡◌, ◌+◌, ◌≤◌, ◌==◌, length, drop};
+ghost use Rattle.std.specs.List.{position_or_len};
+ghost use Rattle.bench_input.specs.Pieces.{newline, keeping, keep_of, cutting, cut_of};
 
 use crate::Cut;
 use collect::Added;
@@ -18,7 +19,7 @@ pub fn cut_line(line: &mut [u8], kept: usize, input: &[u8], from: usize) -> Cut
     if from > input.len() {
         return Cut::Refused(Refusal::UNSOUND);
     }
-    let end = bytes::scan::find(input, from, input.len(), NEWLINE);
+    let end = line_end(input, from);
     let now_kept = keep(line, kept, &input[from..end]);
     if end < input.len() {
         return Cut::Whole {
@@ -27,6 +28,18 @@ pub fn cut_line(line: &mut [u8], kept: usize, input: &[u8], from: usize) -> Cut
         };
     }
     Cut::Part(now_kept)
+}
+
+// Where the line that begins at a place ends: at its newline, or with the piece.
+fn line_end(input: &[u8], from: usize) -> usize
+    requires { from ≤ length input.now }
+    ensures value { result ≡ from + position_or_len (λ c. c == newline) (drop from input.now) }
+    ensures within { result ≤ length input.now }
+{
+    match input[from..].iter().position(|c| *c == NEWLINE) {
+        Some(n) => from + n,
+        None => input.len(),
+    }
 }
 
 // A line that is longer than the buffer loses its end, and no such line has a reading.
