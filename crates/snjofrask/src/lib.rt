@@ -9,9 +9,9 @@ ghost use Rattle.ctaphid.specs.Host.{init_of};
 ghost use Rattle.packet.specs.Reading.{reading_of};
 ghost use Rattle.host.specs.Reading.{read_of};
 ghost use Rattle.send.specs.Sending.{count_of, write_of, split_of};
-ghost use Rattle.touch.specs.Waiting.{begin_of, elapsed_of, step_of as waitStepOf};
-ghost use Rattle.ble.specs.Writing.{count_of as fragmentsOf, write_of as fragmentOf};
-ghost use Rattle.ble.specs.Reading.{read_of as bleReadOf};
+ghost use Rattle.touch.specs.Waiting.{begin_of, elapsed_of, step_of as wait_step_of};
+ghost use Rattle.ble.specs.Writing.{count_of as fragments_of, write_of as fragment_of};
+ghost use Rattle.ble.specs.Reading.{read_of as ble_read_of};
 ghost use Rattle.flat.specs.TellingFragments.{fragments_outcome, laid, laid_of, ble_flat_of};
 ghost use Rattle.flat.specs.TellingWaits.{presence_told, received_told, made_wait_of, elapsed_number, flat_wait_of};
 ghost use Rattle.flat.specs.Telling.{is_set, read_outcome, count_outcome, running_number, made_of, main_made_of, flat, flat_of, main_flat, main_flat_of, put, put_of, host_flat, host_flat_of, init_outcome_of};
@@ -32,7 +32,7 @@ pub extern "C" fn snjofrask_transport_new(
     u2f: u8,
     vendor: &[u8],
 ) -> u8
-    ensures { record { hid = hid.exit.now; refusal = result } ≡ made_of hid.entry.now (new_of max (is_set u2f) vendor.now) }
+    ensures { record { hid = hid.new; refusal = result } ≡ made_of hid.old (new_of max (is_set u2f) vendor.now) }
 {
     let made = flat::transport_new(*hid, max, u2f, vendor);
     *hid = made.hid;
@@ -49,7 +49,7 @@ pub extern "C" fn snjofrask_transport_step(
     message: &mut [u8],
     reply: &mut [u8],
 ) -> Outcome
-    ensures { flat (record { hid = hid.exit.now; outcome = result }) message.new reply.new ≡ flat_of (step_of hid.entry.now time (is_set disabled) packet.now message.old reply.old) }
+    ensures { flat (record { hid = hid.new; outcome = result }) message.new reply.new ≡ flat_of (step_of hid.old time (is_set disabled) packet.now message.old reply.old) }
 {
     let stepped = flat::transport_step(*hid, time, disabled, packet, message, reply);
     *hid = stepped.hid;
@@ -68,7 +68,7 @@ pub extern "C" fn snjofrask_is_locked(hid: &CtapHid, time: u64) -> u8
 
 #[unsafe(no_mangle)]
 pub extern "C" fn snjofrask_device_new(hid: &mut MainHid, max: usize, u2f: u8, vendor: &[u8]) -> u8
-    ensures { record { hid = hid.exit.now; refusal = result } ≡ main_made_of hid.entry.now (main_new_of max (is_set u2f) vendor.now) }
+    ensures { record { hid = hid.new; refusal = result } ≡ main_made_of hid.old (main_new_of max (is_set u2f) vendor.now) }
 {
     let made = flat::device_new(*hid, max, u2f, vendor);
     *hid = made.hid;
@@ -84,7 +84,7 @@ pub extern "C" fn snjofrask_device_step(
     message: &mut [u8],
     reply: &mut [u8],
 ) -> Outcome
-    ensures { main_flat (record { hid = hid.exit.now; outcome = result }) message.new reply.new ≡ main_flat_of (main_step_of hid.entry.now time (is_set disabled) packet.now message.old reply.old) }
+    ensures { main_flat (record { hid = hid.new; outcome = result }) message.new reply.new ≡ main_flat_of (main_step_of hid.old time (is_set disabled) packet.now message.old reply.old) }
 {
     let stepped = flat::device_step(*hid, time, disabled, packet, message, reply);
     *hid = stepped.hid;
@@ -110,7 +110,7 @@ pub extern "C" fn snjofrask_wait_begin(
     time: u64,
     limit: u32,
 ) -> u8
-    ensures { record { wait = wait.exit.now; refusal = result } ≡ made_wait_of wait.entry.now (begin_of interface cid time limit) }
+    ensures { record { wait = wait.new; refusal = result } ≡ made_wait_of wait.old (begin_of interface cid time limit) }
 {
     let made = flat::wait_begin(*wait, interface, cid, time, limit);
     *wait = made.wait;
@@ -136,7 +136,7 @@ pub extern "C" fn snjofrask_wait_step(
     interface: u32,
     packet: &[u8],
 ) -> WaitOutcome
-    ensures { record { wait = wait.exit.now; outcome = result } ≡ flat_wait_of (waitStepOf wait.entry.now time (presence_told presence error) (received_told arrived interface) packet.now) }
+    ensures { record { wait = wait.new; outcome = result } ≡ flat_wait_of (wait_step_of wait.old time (presence_told presence error) (received_told arrived interface) packet.now) }
 {
     let stepped = flat::wait_step(*wait, time, presence, error, arrived, interface, packet);
     *wait = stepped.wait;
@@ -199,7 +199,7 @@ pub extern "C" fn snjofrask_host_read(
     packet: &[u8],
     buffer: &mut [u8],
 ) -> Outcome
-    ensures { host_flat (record { collection = collection.exit.now; outcome = result }) buffer.new ≡ host_flat_of (read_of collection.entry.now cid packet.now buffer.old) }
+    ensures { host_flat (record { collection = collection.new; outcome = result }) buffer.new ≡ host_flat_of (read_of collection.old cid packet.now buffer.old) }
 {
     let progress = flat::host_read(*collection, cid, packet, buffer);
     *collection = progress.collection;
@@ -218,7 +218,7 @@ pub extern "C" fn snjofrask_init_reply(cmd: u8, payload: &[u8]) -> InitOutcome
 
 #[unsafe(no_mangle)]
 pub extern "C" fn snjofrask_ble_fragment_count(size: usize, len: usize) -> Outcome
-    ensures { result ≡ fragments_outcome (fragmentsOf size len) }
+    ensures { result ≡ fragments_outcome (fragments_of size len) }
 {
     flat::ble_fragment_count(size, len)
 }
@@ -232,7 +232,7 @@ pub extern "C" fn snjofrask_ble_write_fragment(
     index: usize,
     buffer: &mut [u8],
 ) -> Outcome
-    ensures { laid result buffer.new ≡ laid_of (fragmentOf size cmd payload.now index buffer.old) }
+    ensures { laid result buffer.new ≡ laid_of (fragment_of size cmd payload.now index buffer.old) }
 {
     flat::ble_write_fragment(size, cmd, payload, index, buffer)
 }
@@ -245,7 +245,7 @@ pub extern "C" fn snjofrask_ble_read_fragment(
     fragment: &[u8],
     buffer: &mut [u8],
 ) -> Outcome
-    ensures { host_flat (record { collection = collection.exit.now; outcome = result }) buffer.new ≡ ble_flat_of (bleReadOf collection.entry.now size fragment.now buffer.old) }
+    ensures { host_flat (record { collection = collection.new; outcome = result }) buffer.new ≡ ble_flat_of (ble_read_of collection.old size fragment.now buffer.old) }
 {
     let progress = flat::ble_read_fragment(*collection, size, fragment, buffer);
     *collection = progress.collection;

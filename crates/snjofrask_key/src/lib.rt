@@ -21,7 +21,7 @@ pub extern "C" fn snjofrask_key_new(
     u2f: u8,
     commands: &[u8],
 ) -> u8
-    ensures { record { key = key.exit.now; refusal = result } ≡ key_made_of key.entry.now (key_new_of main vendor (is_set u2f) commands.now) }
+    ensures { record { key = key.new; refusal = result } ≡ key_made_of key.old (key_new_of main vendor (is_set u2f) commands.now) }
 {
     let made = flat_key::key_new(*key, main, vendor, u2f, commands);
     *key = made.key;
