@@ -25,8 +25,7 @@ use touch::Wait;
 
 // A fresh transport, with the largest message that it takes and the numbers of the vendor commands that it knows. 0, or refusal 5 or 13, which leaves hid as
 // it came.
-#[unsafe(no_mangle)]
-pub extern "C" fn snjofrask_transport_new(
+pub fn snjofrask_transport_new(
     hid: &mut CtapHid,
     max: usize,
     u2f: u8,
@@ -40,8 +39,7 @@ pub extern "C" fn snjofrask_transport_new(
 }
 
 // A packet at a time in milliseconds. A refused step leaves hid and both buffers as they came.
-#[unsafe(no_mangle)]
-pub extern "C" fn snjofrask_transport_step(
+pub fn snjofrask_transport_step(
     hid: &mut CtapHid,
     time: u64,
     disabled: u8,
@@ -57,8 +55,7 @@ pub extern "C" fn snjofrask_transport_step(
 }
 
 // Whether a lock runs: 0 no, 1 yes, or refusal 3 or 4.
-#[unsafe(no_mangle)]
-pub extern "C" fn snjofrask_is_locked(hid: &CtapHid, time: u64) -> u8
+pub fn snjofrask_is_locked(hid: &CtapHid, time: u64) -> u8
     ensures { result ≡ running_number (locked_of hid.now time) }
 {
     flat::is_locked(*hid, time)
@@ -66,8 +63,7 @@ pub extern "C" fn snjofrask_is_locked(hid: &CtapHid, time: u64) -> u8
 
 // ---- the device: checks 1 to 8
 
-#[unsafe(no_mangle)]
-pub extern "C" fn snjofrask_device_new(hid: &mut MainHid, max: usize, u2f: u8, vendor: &[u8]) -> u8
+pub fn snjofrask_device_new(hid: &mut MainHid, max: usize, u2f: u8, vendor: &[u8]) -> u8
     ensures { record { hid = hid.new; refusal = result } ≡ main_made_of hid.old (main_new_of max (is_set u2f) vendor.now) }
 {
     let made = flat::device_new(*hid, max, u2f, vendor);
@@ -75,8 +71,7 @@ pub extern "C" fn snjofrask_device_new(hid: &mut MainHid, max: usize, u2f: u8, v
     made.refusal
 }
 
-#[unsafe(no_mangle)]
-pub extern "C" fn snjofrask_device_step(
+pub fn snjofrask_device_step(
     hid: &mut MainHid,
     time: u64,
     disabled: u8,
@@ -92,8 +87,7 @@ pub extern "C" fn snjofrask_device_step(
 }
 
 // Whether a wink runs: 0 no, 1 yes, or refusal 3 or 4.
-#[unsafe(no_mangle)]
-pub extern "C" fn snjofrask_is_winking(hid: &MainHid, time: u64) -> u8
+pub fn snjofrask_is_winking(hid: &MainHid, time: u64) -> u8
     ensures { result ≡ running_number (winking_of hid.now time) }
 {
     flat::is_winking(*hid, time)
@@ -102,8 +96,7 @@ pub extern "C" fn snjofrask_is_winking(hid: &MainHid, time: u64) -> u8
 // ---- the wait for a touch
 
 // A wait for a request of this interface and channel, from a time on, with a limit in milliseconds. 0, or refusal 4, which leaves wait as it came.
-#[unsafe(no_mangle)]
-pub extern "C" fn snjofrask_wait_begin(
+pub fn snjofrask_wait_begin(
     wait: &mut Wait,
     interface: u32,
     cid: u32,
@@ -118,16 +111,14 @@ pub extern "C" fn snjofrask_wait_begin(
 }
 
 // Whether the limit has elapsed: 0 no, 1 yes, or refusal 4.
-#[unsafe(no_mangle)]
-pub extern "C" fn snjofrask_wait_elapsed(wait: &Wait, time: u64) -> u8
+pub fn snjofrask_wait_elapsed(wait: &Wait, time: u64) -> u8
     ensures { result ≡ elapsed_number (elapsed_of wait.now time) }
 {
     flat::wait_elapsed(*wait, time)
 }
 
 // A step that began at a time. Where no packet arrived, interface and packet are not looked at. A refused step, by 1 or 4, leaves wait as it came.
-#[unsafe(no_mangle)]
-pub extern "C" fn snjofrask_wait_step(
+pub fn snjofrask_wait_step(
     wait: &mut Wait,
     time: u64,
     presence: u8,
@@ -145,23 +136,20 @@ pub extern "C" fn snjofrask_wait_step(
 
 // ---- packets
 
-#[unsafe(no_mangle)]
-pub extern "C" fn snjofrask_read_packet(packet: &[u8]) -> Outcome
+pub fn snjofrask_read_packet(packet: &[u8]) -> Outcome
     ensures { result ≡ read_outcome (reading_of packet.now) }
 {
     flat::read_packet(packet)
 }
 
-#[unsafe(no_mangle)]
-pub extern "C" fn snjofrask_packet_count(len: usize) -> Outcome
+pub fn snjofrask_packet_count(len: usize) -> Outcome
     ensures { result ≡ count_outcome (count_of len) }
 {
     flat::packet_count(len)
 }
 
 // 0, or refusal 1, 12, 7 or 6, which leaves the packet as it came.
-#[unsafe(no_mangle)]
-pub extern "C" fn snjofrask_write_packet(
+pub fn snjofrask_write_packet(
     cid: u32,
     cmd: u8,
     payload: &[u8],
@@ -174,8 +162,7 @@ pub extern "C" fn snjofrask_write_packet(
 }
 
 // The same for a reply of any length: one that is too long becomes CBOR with the byte given.
-#[unsafe(no_mangle)]
-pub extern "C" fn snjofrask_split_message(
+pub fn snjofrask_split_message(
     cid: u32,
     cmd: u8,
     payload: &[u8],
@@ -192,8 +179,7 @@ pub extern "C" fn snjofrask_split_message(
 
 // A packet, read for channel cid. A fresh collection is all zeros. A packet that is refused, by 1, 3, 9 or 10, or ignored leaves the collection and the buffer
 // as they came.
-#[unsafe(no_mangle)]
-pub extern "C" fn snjofrask_host_read(
+pub fn snjofrask_host_read(
     collection: &mut Collection,
     cid: u32,
     packet: &[u8],
@@ -207,8 +193,7 @@ pub extern "C" fn snjofrask_host_read(
 }
 
 // The fields of a reply to INIT, from its command and payload, and how many bytes follow them; or refusal 11.
-#[unsafe(no_mangle)]
-pub extern "C" fn snjofrask_init_reply(cmd: u8, payload: &[u8]) -> InitOutcome
+pub fn snjofrask_init_reply(cmd: u8, payload: &[u8]) -> InitOutcome
     ensures { result ≡ init_outcome_of (init_of cmd payload.now) }
 {
     flat::init_reply(cmd, payload)
@@ -216,16 +201,14 @@ pub extern "C" fn snjofrask_init_reply(cmd: u8, payload: &[u8]) -> InitOutcome
 
 // ---- Bluetooth
 
-#[unsafe(no_mangle)]
-pub extern "C" fn snjofrask_ble_fragment_count(size: usize, len: usize) -> Outcome
+pub fn snjofrask_ble_fragment_count(size: usize, len: usize) -> Outcome
     ensures { result ≡ fragments_outcome (fragments_of size len) }
 {
     flat::ble_fragment_count(size, len)
 }
 
 // How many bytes the fragment has, as a count; or refusal 14, 2, 12, 7 or 6, which leaves the buffer as it came.
-#[unsafe(no_mangle)]
-pub extern "C" fn snjofrask_ble_write_fragment(
+pub fn snjofrask_ble_write_fragment(
     size: usize,
     cmd: u8,
     payload: &[u8],
@@ -238,8 +221,7 @@ pub extern "C" fn snjofrask_ble_write_fragment(
 }
 
 // A fresh collection is all zeros. A fragment that is refused, by 14, 3, 15, 16, 17 or 18, leaves the collection and the buffer as they came.
-#[unsafe(no_mangle)]
-pub extern "C" fn snjofrask_ble_read_fragment(
+pub fn snjofrask_ble_read_fragment(
     collection: &mut Collection,
     size: usize,
     fragment: &[u8],

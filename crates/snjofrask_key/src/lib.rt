@@ -13,8 +13,7 @@ use key::Key;
 
 // A fresh key, with the largest message that each interface takes and the numbers of the vendor commands that both know. 0, or refusal 5 or 13, which leaves key as
 // it came.
-#[unsafe(no_mangle)]
-pub extern "C" fn snjofrask_key_new(
+pub fn snjofrask_key_new(
     key: &mut Key,
     main: usize,
     vendor: usize,
@@ -29,8 +28,7 @@ pub extern "C" fn snjofrask_key_new(
 }
 
 // A packet on main, at a time in milliseconds. A refused step leaves key and both buffers as they came.
-#[unsafe(no_mangle)]
-pub extern "C" fn snjofrask_key_main_step(
+pub fn snjofrask_key_main_step(
     key: &mut Key,
     time: u64,
     packet: &[u8],
@@ -45,8 +43,7 @@ pub extern "C" fn snjofrask_key_main_step(
 }
 
 // A packet on vendor.
-#[unsafe(no_mangle)]
-pub extern "C" fn snjofrask_key_vendor_step(
+pub fn snjofrask_key_vendor_step(
     key: &mut Key,
     time: u64,
     packet: &[u8],
@@ -66,22 +63,19 @@ pub extern "C" fn snjofrask_key_vendor_step(
 }
 
 // Whether main's lock, vendor's, or the wink runs: 0 no, 1 yes, or refusal 3 or 4.
-#[unsafe(no_mangle)]
-pub extern "C" fn snjofrask_key_main_is_locked(key: &Key, time: u64) -> u8
+pub fn snjofrask_key_main_is_locked(key: &Key, time: u64) -> u8
     ensures { result ≡ running_number (main_locked_of key.now time) }
 {
     flat_key::key_main_is_locked(*key, time)
 }
 
-#[unsafe(no_mangle)]
-pub extern "C" fn snjofrask_key_vendor_is_locked(key: &Key, time: u64) -> u8
+pub fn snjofrask_key_vendor_is_locked(key: &Key, time: u64) -> u8
     ensures { result ≡ running_number (vendor_locked_of key.now time) }
 {
     flat_key::key_vendor_is_locked(*key, time)
 }
 
-#[unsafe(no_mangle)]
-pub extern "C" fn snjofrask_key_is_winking(key: &Key, time: u64) -> u8
+pub fn snjofrask_key_is_winking(key: &Key, time: u64) -> u8
     ensures { result ≡ running_number (key_winking_of key.now time) }
 {
     flat_key::key_is_winking(*key, time)

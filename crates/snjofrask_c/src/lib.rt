@@ -1,0 +1,222 @@
+// The static library: what C and Rust link, each entry of the library snjofrask under its name, with its clauses.
+#![tactic(auto)]
+ghost use Rattle.std.specs.Prelude.{◌≡◌};
+ghost use Rattle.hid.specs.Transport.{step_of};
+ghost use Rattle.hid.specs.MainHid.{main_step_of};
+ghost use Rattle.hid.specs.SetUp.{new_of, main_new_of};
+ghost use Rattle.hid.specs.Questions.{locked_of, winking_of};
+ghost use Rattle.ctaphid.specs.Host.{init_of};
+ghost use Rattle.packet.specs.Reading.{reading_of};
+ghost use Rattle.host.specs.Reading.{read_of};
+ghost use Rattle.send.specs.Sending.{count_of, write_of, split_of};
+ghost use Rattle.touch.specs.Waiting.{begin_of, elapsed_of, step_of as wait_step_of};
+ghost use Rattle.ble.specs.Writing.{count_of as fragments_of, write_of as fragment_of};
+ghost use Rattle.ble.specs.Reading.{read_of as ble_read_of};
+ghost use Rattle.flat.specs.TellingFragments.{fragments_outcome, laid, laid_of, ble_flat_of};
+ghost use Rattle.flat.specs.TellingWaits.{presence_told, received_told, made_wait_of, elapsed_number, flat_wait_of};
+ghost use Rattle.flat.specs.Telling.{is_set, read_outcome, count_outcome, running_number, made_of, main_made_of, flat, flat_of, main_flat, main_flat_of, put, put_of, host_flat, host_flat_of, init_outcome_of};
+
+use flat::{InitOutcome, Outcome, WaitOutcome};
+use hid::{CtapHid, MainHid};
+use host::Collection;
+use touch::Wait;
+
+// ---- the transport: checks 1 to 7
+
+#[unsafe(no_mangle)]
+pub extern "C" fn snjofrask_transport_new(
+    hid: &mut CtapHid,
+    max: usize,
+    u2f: u8,
+    vendor: &[u8],
+) -> u8
+    ensures { record { hid = hid.new; refusal = result } ≡ made_of hid.old (new_of max (is_set u2f) vendor.now) }
+{
+    snjofrask::snjofrask_transport_new(hid, max, u2f, vendor)
+}
+
+#[unsafe(no_mangle)]
+pub extern "C" fn snjofrask_transport_step(
+    hid: &mut CtapHid,
+    time: u64,
+    disabled: u8,
+    packet: &[u8],
+    message: &mut [u8],
+    reply: &mut [u8],
+) -> Outcome
+    ensures { flat (record { hid = hid.new; outcome = result }) message.new reply.new ≡ flat_of (step_of hid.old time (is_set disabled) packet.now message.old reply.old) }
+{
+    snjofrask::snjofrask_transport_step(hid, time, disabled, packet, message, reply)
+}
+
+#[unsafe(no_mangle)]
+pub extern "C" fn snjofrask_is_locked(hid: &CtapHid, time: u64) -> u8
+    ensures { result ≡ running_number (locked_of hid.now time) }
+{
+    snjofrask::snjofrask_is_locked(hid, time)
+}
+
+// ---- the device: checks 1 to 8
+
+#[unsafe(no_mangle)]
+pub extern "C" fn snjofrask_device_new(hid: &mut MainHid, max: usize, u2f: u8, vendor: &[u8]) -> u8
+    ensures { record { hid = hid.new; refusal = result } ≡ main_made_of hid.old (main_new_of max (is_set u2f) vendor.now) }
+{
+    snjofrask::snjofrask_device_new(hid, max, u2f, vendor)
+}
+
+#[unsafe(no_mangle)]
+pub extern "C" fn snjofrask_device_step(
+    hid: &mut MainHid,
+    time: u64,
+    disabled: u8,
+    packet: &[u8],
+    message: &mut [u8],
+    reply: &mut [u8],
+) -> Outcome
+    ensures { main_flat (record { hid = hid.new; outcome = result }) message.new reply.new ≡ main_flat_of (main_step_of hid.old time (is_set disabled) packet.now message.old reply.old) }
+{
+    snjofrask::snjofrask_device_step(hid, time, disabled, packet, message, reply)
+}
+
+#[unsafe(no_mangle)]
+pub extern "C" fn snjofrask_is_winking(hid: &MainHid, time: u64) -> u8
+    ensures { result ≡ running_number (winking_of hid.now time) }
+{
+    snjofrask::snjofrask_is_winking(hid, time)
+}
+
+// ---- the wait for a touch
+
+#[unsafe(no_mangle)]
+pub extern "C" fn snjofrask_wait_begin(
+    wait: &mut Wait,
+    interface: u32,
+    cid: u32,
+    time: u64,
+    limit: u32,
+) -> u8
+    ensures { record { wait = wait.new; refusal = result } ≡ made_wait_of wait.old (begin_of interface cid time limit) }
+{
+    snjofrask::snjofrask_wait_begin(wait, interface, cid, time, limit)
+}
+
+#[unsafe(no_mangle)]
+pub extern "C" fn snjofrask_wait_elapsed(wait: &Wait, time: u64) -> u8
+    ensures { result ≡ elapsed_number (elapsed_of wait.now time) }
+{
+    snjofrask::snjofrask_wait_elapsed(wait, time)
+}
+
+#[unsafe(no_mangle)]
+pub extern "C" fn snjofrask_wait_step(
+    wait: &mut Wait,
+    time: u64,
+    presence: u8,
+    error: u8,
+    arrived: u8,
+    interface: u32,
+    packet: &[u8],
+) -> WaitOutcome
+    ensures { record { wait = wait.new; outcome = result } ≡ flat_wait_of (wait_step_of wait.old time (presence_told presence error) (received_told arrived interface) packet.now) }
+{
+    snjofrask::snjofrask_wait_step(wait, time, presence, error, arrived, interface, packet)
+}
+
+// ---- packets
+
+#[unsafe(no_mangle)]
+pub extern "C" fn snjofrask_read_packet(packet: &[u8]) -> Outcome
+    ensures { result ≡ read_outcome (reading_of packet.now) }
+{
+    snjofrask::snjofrask_read_packet(packet)
+}
+
+#[unsafe(no_mangle)]
+pub extern "C" fn snjofrask_packet_count(len: usize) -> Outcome
+    ensures { result ≡ count_outcome (count_of len) }
+{
+    snjofrask::snjofrask_packet_count(len)
+}
+
+#[unsafe(no_mangle)]
+pub extern "C" fn snjofrask_write_packet(
+    cid: u32,
+    cmd: u8,
+    payload: &[u8],
+    index: usize,
+    packet: &mut [u8],
+) -> u8
+    ensures { put result packet.new ≡ put_of (write_of cid cmd payload.now index packet.old) }
+{
+    snjofrask::snjofrask_write_packet(cid, cmd, payload, index, packet)
+}
+
+#[unsafe(no_mangle)]
+pub extern "C" fn snjofrask_split_message(
+    cid: u32,
+    cmd: u8,
+    payload: &[u8],
+    internal_error: u8,
+    index: usize,
+    packet: &mut [u8],
+) -> u8
+    ensures { put result packet.new ≡ put_of (split_of cid cmd payload.now internal_error index packet.old) }
+{
+    snjofrask::snjofrask_split_message(cid, cmd, payload, internal_error, index, packet)
+}
+
+// ---- the host
+
+#[unsafe(no_mangle)]
+pub extern "C" fn snjofrask_host_read(
+    collection: &mut Collection,
+    cid: u32,
+    packet: &[u8],
+    buffer: &mut [u8],
+) -> Outcome
+    ensures { host_flat (record { collection = collection.new; outcome = result }) buffer.new ≡ host_flat_of (read_of collection.old cid packet.now buffer.old) }
+{
+    snjofrask::snjofrask_host_read(collection, cid, packet, buffer)
+}
+
+#[unsafe(no_mangle)]
+pub extern "C" fn snjofrask_init_reply(cmd: u8, payload: &[u8]) -> InitOutcome
+    ensures { result ≡ init_outcome_of (init_of cmd payload.now) }
+{
+    snjofrask::snjofrask_init_reply(cmd, payload)
+}
+
+// ---- Bluetooth
+
+#[unsafe(no_mangle)]
+pub extern "C" fn snjofrask_ble_fragment_count(size: usize, len: usize) -> Outcome
+    ensures { result ≡ fragments_outcome (fragments_of size len) }
+{
+    snjofrask::snjofrask_ble_fragment_count(size, len)
+}
+
+#[unsafe(no_mangle)]
+pub extern "C" fn snjofrask_ble_write_fragment(
+    size: usize,
+    cmd: u8,
+    payload: &[u8],
+    index: usize,
+    buffer: &mut [u8],
+) -> Outcome
+    ensures { laid result buffer.new ≡ laid_of (fragment_of size cmd payload.now index buffer.old) }
+{
+    snjofrask::snjofrask_ble_write_fragment(size, cmd, payload, index, buffer)
+}
+
+#[unsafe(no_mangle)]
+pub extern "C" fn snjofrask_ble_read_fragment(
+    collection: &mut Collection,
+    size: usize,
+    fragment: &[u8],
+    buffer: &mut [u8],
+) -> Outcome
+    ensures { host_flat (record { collection = collection.new; outcome = result }) buffer.new ≡ ble_flat_of (ble_read_of collection.old size fragment.now buffer.old) }
+{
+    snjofrask::snjofrask_ble_read_fragment(collection, size, fragment, buffer)
+}
