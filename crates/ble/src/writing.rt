@@ -1,5 +1,5 @@
 // A message in fragments, one by one.
-ghost use Rattle.std.specs.Prelude.{◌≡◌, [], ◌++◌, ◌+◌, ◌-◌, ◌/◌, ◌≤◌, length, get_or, take};
+ghost use Rattle.std.specs.Prelude.{◌≡◌, [], ◌++◌, ◌+◌, ◌-◌, ◌/◌, ◌≤◌, length, get_or, take, drop};
 ghost use Rattle.ctaphid.specs.Bluetooth.{fragments_written};
 ghost use Rattle.ble.specs.Writing.{count_of, left, put, write_of, Puts};
 
@@ -84,11 +84,23 @@ fn lay(size: usize, head: &[u8], data: &[u8], buffer: &mut [u8]) -> usize
     requires { (length head.now ≤ size) × (size ≤ length buffer.old) }
     ensures { left (Written.Fragment result) buffer.new ≡ put (head.now ++ take (size - length head.now) «data».now) buffer.old }
 {
-    buffer[..head.len()].copy_from_slice(head);
+    copy(head, buffer);
     match collect::add_data(buffer, head.len(), size, data) {
         Added::Waiting(n) => n,
         Added::Whole => size,
         // never: the lengths stand
         Added::Refused(_) => size,
+    }
+}
+
+// A loop, because copy_from_slice would call C's memmove where the size isn't known, and the archive must need no symbol from outside.
+fn copy(src: &[u8], dst: &mut [u8])
+    requires { length src.now ≤ length dst.old }
+    ensures { dst.new ≡ src.now ++ drop (length src.now) dst.old }
+{
+    let mut i = 0;
+    while i < src.len() {
+        dst[i] = src[i];
+        i += 1;
     }
 }

@@ -39,7 +39,19 @@ fn put(message: &mut [u8], at: usize, data: &[u8])
     requires { at + length «data».now ≤ length message.old }
     ensures { message.new ≡ take at message.old ++ («data».now ++ drop (at + length «data».now) message.old) }
 {
-    message[at..at + data.len()].copy_from_slice(data);
+    copy(data, &mut message[at..]);
+}
+
+// A loop, because copy_from_slice would call C's memmove where the size isn't known, and the archive must need no symbol from outside.
+fn copy(src: &[u8], dst: &mut [u8])
+    requires { length src.now ≤ length dst.old }
+    ensures { dst.new ≡ src.now ++ drop (length src.now) dst.old }
+{
+    let mut i = 0;
+    while i < src.len() {
+        dst[i] = src[i];
+        i += 1;
+    }
 }
 
 // Whether the lengths and the number due of a message that is half there make sense. One of 57 bytes or fewer is never half there.

@@ -1,21 +1,18 @@
 use Rattle.ble.proofs.Sending.{laid-short, laid-full, laid-never}
-use Rattle.std.proofs.Common.{rules, ℕ, List, ◌++◌, length, drop, ap}
+use Rattle.std.proofs.Common.{rules}
 use Rattle.ble.proofs.writing.lay.Goals as goal
 
 pub returns-in-Waiting : goal.returns-in-Waiting
 returns-in-Waiting c =
     let a = c.args in
-    let is = ap (λ (t : List ℕ). t ++ drop (length a.head.now) a.buffer.now) c.copy_from_slice.ensures.after in
-    laid-short a.size a.head.now a.«data».now a.buffer.now _ c.requires.0 c.requires.1 is _ c.add_data.ensures (search rules)
+    laid-short a.size a.head.now a.«data».now a.buffer.now _ c.requires.0 c.requires.1 c.copy.ensures _ c.add_data.ensures (search rules)
 
 pub returns-in-Whole : goal.returns-in-Whole
 returns-in-Whole c =
     let a = c.args in
-    let is = ap (λ (t : List ℕ). t ++ drop (length a.head.now) a.buffer.now) c.copy_from_slice.ensures.after in
-    laid-full a.size a.head.now a.«data».now a.buffer.now _ c.requires.0 c.requires.1 is _ c.add_data.ensures (search rules)
+    laid-full a.size a.head.now a.«data».now a.buffer.now _ c.requires.0 c.requires.1 c.copy.ensures _ c.add_data.ensures (search rules)
 
 pub returns-in-Refused : goal.returns-in-Refused
 returns-in-Refused c =
     let a = c.args in
-    let is = ap (λ (t : List ℕ). t ++ drop (length a.head.now) a.buffer.now) c.copy_from_slice.ensures.after in
-    laid-never a.size a.head.now a.«data».now a.buffer.now _ c.requires.0 c.requires.1 is _ c.add_data.ensures {number = c.in-Refused.field-0} (search rules)
+    laid-never a.size a.head.now a.«data».now a.buffer.now _ c.requires.0 c.requires.1 c.copy.ensures _ c.add_data.ensures {number = c.in-Refused.field-0} (search rules)
