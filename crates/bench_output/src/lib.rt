@@ -1,5 +1,6 @@
 // What the bench program prints for an answer of the device. docs/RULES.md, The bench's lines.
 #![tactic(auto)]
+
 mod packets;
 mod placing;
 mod printing;
@@ -7,13 +8,13 @@ mod printing;
 pub use printing::{answer_text, hex_text};
 
 // How much of the text buffer's front was written; or a refusal, which leaves the buffer as it came.
-#[derive(Drop)]
+#[derive(Clone, Copy)]
 pub enum Text {
     Bytes(usize),
     Refused(u8),
 }
 
-#[derive(Drop)]
+#[derive(Clone, Copy)]
 pub struct Texts;
 
 impl Texts {
