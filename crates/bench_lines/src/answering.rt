@@ -61,9 +61,10 @@ fn unread(hid: MainHid, out: &mut [u8]) -> Printed
     requires { 16899 ≤ length out.old }
     ensures { (result.hid ≡ hid) × (printing result.text out.new ≡ printed unread_line out.old) }
 {
-    let end = bytes::copy(b"line?\n", out);
+    let text = b"line?\n";
+    out[..text.len()].copy_from_slice(text);
     Printed {
         hid,
-        text: Text::Bytes(end),
+        text: Text::Bytes(text.len()),
     }
 }

@@ -1,5 +1,6 @@
 // A line of the bench program, answered: read, a step of the device on it, and what that prints. docs/RULES.md, The bench's lines.
 #![tactic(auto)]
+
 mod answering;
 
 pub use answering::bench_line;
@@ -7,7 +8,7 @@ use bench_output::Text;
 use hid::MainHid;
 
 // The device after a line, and what the line prints.
-#[derive(Drop)]
+#[derive(Clone, Copy)]
 pub struct Printed {
     pub hid: MainHid,
     pub text: Text,
