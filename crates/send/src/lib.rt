@@ -167,9 +167,21 @@ fn consume_data(packet: &mut [u8], front: usize, data: &[u8])
     let room = packet.len() - front;
     if data.len() < room {
         clear(packet);
-        packet[front..front + data.len()].copy_from_slice(data);
+        copy(data, &mut packet[front..]);
     } else {
-        packet[front..].copy_from_slice(&data[..room]);
+        copy(&data[..room], &mut packet[front..]);
+    }
+}
+
+// A loop, because copy_from_slice would call C's memmove where the size isn't known, and the archive must need no symbol from outside.
+fn copy(src: &[u8], dst: &mut [u8])
+    requires { length src.now ≤ length dst.old }
+    ensures { dst.new ≡ src.now ++ drop (length src.now) dst.old }
+{
+    let mut i = 0;
+    while i < src.len() {
+        dst[i] = src[i];
+        i += 1;
     }
 }
 
