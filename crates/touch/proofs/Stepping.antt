@@ -2,7 +2,7 @@
 use Prim.Native.Nat.{ℕ, ◌+◌, ◌≤◌, ◌<◌}
 use mathlib.Core.Path.{◌≡◌, sym, ap, ◌∙◌}
 use mathlib.Core.List.{List}
-use mathlib.Core.Bool.{Bool, true, false}
+use mathlib.Core.Bool.{Bool, true, false, not}
 use borrow.Author.Tests.{lt-ltb, le-ltb, le-leb, lt-leb, eqb-true, not-false}
 use lib.ListN.{length}
 use lib.Dec.{eqb}
@@ -88,5 +88,11 @@ module _ (w : Wait) (time : ℕ) (up : UserPresence) (rx : RecvStatus) (p : List
 pub ruleset stepping = (step_cut, step-late, step_back, step-over, step_in)
 
 -- ---- a packet that arrived and isn't cut
+pub cut-received : (rx : RecvStatus) (size : ℕ) {from : ℕ} (r : Bool) → rx ≡ Received from → r ≡ not (eqb size packet_size) → r ≡ is_cut rx size
+cut-received rx size r e k = k ∙ ap (λ (x : RecvStatus). is_cut x size) (sym e)
+
+pub not-cut : (rx : RecvStatus) (size : ℕ) (b : Bool) → b ≡ is_cut rx size → b ≡ false → is_cut rx size ≡ false
+not-cut rx size b is whole = sym is ∙ whole
+
 pub whole-packet : (rx : RecvStatus) (size : ℕ) {from : ℕ} → is_cut rx size ≡ false → rx ≡ Received from → size ≡ 64
 whole-packet rx size h e = eqb-true size packet_size (not-false (eqb size packet_size) (sym (ap (λ (x : RecvStatus). is_cut x size) e) ∙ h))
