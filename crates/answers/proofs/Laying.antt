@@ -1,9 +1,9 @@
 -- Answers laid out: what a `return` of `error_message` meets, and what is known where the short buffer has room. Assumes nothing.
 use Prim.Native.Nat.{ℕ, ◌≤◌, ◌<◌}
 use native.Mathlib.Omega.{arith}
-use mathlib.Core.Path.{◌≡◌, refl, ap, ◌∙◌}
+use mathlib.Core.Path.{◌≡◌, refl, ap}
 use mathlib.Core.List.{List, [], ◌∷◌}
-use mathlib.Core.Bool.{Bool, true, false}
+use mathlib.Core.Bool.{false}
 use borrow.Author.Tests.{lt-ltb, le-ltb}
 use lib.ListN.{length, set}
 use Rattle.ctaphid.specs.Choice.{pick}
@@ -12,7 +12,6 @@ use Rattle.ctaphid.specs.Transport as standard
 use Rattle.ctaphid.proofs.Tests.{pick_same}
 use Rattle.packet.specs.declared.command.CtapHidCommand.TheVariants as command
 use Rattle.collect.specs.Adding.{front}
-use Rattle.answers.specs.declared.Answer.{Answer}
 use Rattle.answers.specs.declared.Answer.TheVariants.{Refused, Reply}
 use Rattle.answers.specs.Answers.{answer_of, replied}
 use Rattle.answers.specs.Replies.{answering, is_short, laid_of}

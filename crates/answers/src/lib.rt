@@ -1,5 +1,6 @@
 // What a step of the device answers, and where it puts what is to be sent.
 #![tactic(auto)]
+
 mod payloads;
 mod replies;
 

@@ -8,7 +8,7 @@ use mathlib.Core.Bool.{Bool, true, false, not}
 use borrow.Author.Tests.{leb-true, lt-ltb, le-ltb, le-leb, lt-leb, not-false}
 use lib.Dec.{leb}
 use lib.ListN.{length, get_or, take, drop, length-append, length-drop}
-use lib.Seq.{take_all, take-length, take-append_seam, take-append-add, drop-append-add, drop-drop, length-take-le}
+use lib.Seq.{take_all, take-append_seam, take-append-add, drop-append-add, drop-drop, length-take-le}
 use Rattle.ctaphid.specs.Choice.{pick}
 use Rattle.ctaphid.specs.Messages.{count}
 use Rattle.ctaphid.specs.Bluetooth.{is_size, is_command, fragments_written}

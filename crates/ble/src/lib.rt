@@ -1,5 +1,6 @@
 // Bluetooth framing: a message written in fragments, and fragments put together into a message, for either end. OpenSK has none; docs/RULES.md says what it does.
 #![tactic(auto)]
+
 mod command;
 mod limits;
 mod reading;

@@ -1,5 +1,5 @@
 -- INIT: what a `return` meets, and what is known of a transport of which more is known. Assumes nothing.
-use Prim.Native.Nat.{ℕ, ◌+◌, ◌-◌, ◌≤◌, ◌<◌}
+use Prim.Native.Nat.{ℕ, ◌+◌, ◌≤◌, ◌<◌}
 use native.Mathlib.Omega.{arith}
 use mathlib.Core.Path.{◌≡◌, refl, sym, ap, ◌∙◌}
 use mathlib.Core.List.{List, [], ◌∷◌, ◌++◌, append_assoc}
@@ -8,7 +8,7 @@ use borrow.Author.Tests.{lt-ltb, le-ltb}
 use borrow.Rule.Slice.PartMut.{put_mid, post_of}
 use lib.Dec.{eqb}
 use lib.ListN.{length, take, drop, length-append}
-use lib.Seq.{take-length, take_at, drop-append-add, drop-drop}
+use lib.Seq.{take_at, drop-append-add, drop-drop}
 use Rattle.ctaphid.specs.Choice.{pick}
 use Rattle.ctaphid.specs.Packets.{four}
 use Rattle.ctaphid.specs.Commands.{INIT}
@@ -17,11 +17,9 @@ use Rattle.ctaphid.specs.Capabilities.{capabilities}
 use Rattle.ctaphid.specs.Transport.{Transport, Next, next, reply, error, broadcast, next_channel, init_reply, with_allocated, on_init}
 use Rattle.ctaphid.proofs.Transport.{init-long, init-new, init-same}
 use Rattle.packet.specs.declared.command.CtapHidCommand.TheVariants as command
-use Rattle.packet.proofs.Parts.{copied_at}
 use Rattle.collect.specs.Adding.{front}
 use Rattle.answers.specs.declared.Answer.{Answer}
 use Rattle.answers.specs.declared.Answer.TheVariants.{Refused, Reply}
-use Rattle.answers.specs.Answers.{answer_of, replied}
 use Rattle.answers.specs.Replies.{Answering, answering, laid_of}
 use Rattle.answers.proofs.Laying.{laid-roomy}
 use Rattle.channels.specs.declared.Allocated.{Allocated}

@@ -1,5 +1,6 @@
 // Channels and the lock, after OpenSK's hid/mod.rs: of a step (docs/RULES.md) checks 1 and 2, and of check 7 the two commands that are about them.
 #![tactic(auto)]
+
 mod allocating;
 mod locking;
 mod validity;

@@ -1,5 +1,6 @@
 // A packet's data added to a message that is being put together: for the device's receiver and for the host's.
 #![tactic(auto)]
+
 ghost use Rattle.std.specs.Prelude.{◌≡◌, ◌+◌, ◌≤◌, length, ◌++◌, take, drop};
 ghost use Rattle.collect.specs.Adding.{added, add_of};
 ghost use Rattle.collect.specs.Standing.{is_standing};

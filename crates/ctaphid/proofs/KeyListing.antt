@@ -1,12 +1,11 @@
 -- Of a key's list of vendor commands only the members count, on both interfaces. Assumes nothing.
 use Prim.Native.Nat.{ℕ}
-use mathlib.Core.Path.{◌≡◌, refl, sym, ap, ◌∙◌}
+use mathlib.Core.Path.{◌≡◌, refl, ap, ◌∙◌}
 use mathlib.Core.List.{List, [], ◌∷◌}
-use Rattle.ctaphid.specs.Transport.{Transport, Next, next}
-use Rattle.ctaphid.specs.Device.{Device}
+use Rattle.ctaphid.specs.Transport.{Next, next}
 use Rattle.ctaphid.specs.Interfaces.{Interface, main, vendor, KeySettings, settings_on, Arrival, arrival, Both, both, seen_as, Key, key, main_of, with_main, with_vendor, key_step}
 use Rattle.ctaphid.specs.KeyDemands.{standard_key, after_by, answer_by}
-use Rattle.ctaphid.proofs.Listing.{relisted, relisted_next, relisted_device, relisted_leads, Lists, lists-on, step-alike, leads, leads-on}
+use Rattle.ctaphid.proofs.Listing.{relisted, Lists, lists-on, step-alike, leads, leads-on}
 
 abbrev pub listing_on : List ℕ → KeySettings → KeySettings
 listing_on l set = record { main = set.main; vendor = set.vendor; u2f = set.u2f; commands = l }

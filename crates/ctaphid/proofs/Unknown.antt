@@ -5,16 +5,16 @@ use mathlib.Core.List.{List, [], ◌∷◌, ◌++◌}
 use mathlib.Core.Bool.{Bool, true, true≢false}
 use mathlib.Core.Logic.{inl, inr}
 use borrow.Author.Tests.{eqb-true}
-use lib.Dec.{leb, eqb}
+use lib.Dec.{eqb}
 use lib.ListN.{drop}
 use Rattle.ctaphid.specs.Choice.{pick, is_in}
-use Rattle.ctaphid.specs.Packets.{Packet, initialization, continuation, byte, channel_in, declared_in, read}
+use Rattle.ctaphid.specs.Packets.{Packet, initialization, byte, channel_in, declared_in}
 use Rattle.ctaphid.specs.Commands.{Command, MSG, CBOR, INIT, PING, CANCEL, ERROR, KEEPALIVE, WINK, LOCK, VENDOR, number, is_vendor, among, commands, command_of}
 use Rattle.ctaphid.specs.Errors.{InvalidCmd, InvalidSeq, ChannelBusy, InvalidChannel, code}
 use Rattle.ctaphid.specs.Settings.{Settings, knows}
-use Rattle.ctaphid.specs.Receiver.{Transaction, Receiver, idle, busy, Turn, channel_of, start, when_idle, when_over, on_own, when_busy, receive}
-use Rattle.ctaphid.specs.Transport.{Transport, Event, nothing, Next, settle, settled, is_shut, hear}
-use Rattle.ctaphid.specs.Demands.{AnyDevice, standard, Permitted, Taken, after, answer, First, Begun, IsKnown, UnknownToldAtOnce, NoneShutOut, NoneShutOutByUnknown}
+use Rattle.ctaphid.specs.Receiver.{Transaction, Receiver, idle, busy, Turn, start, when_idle, when_over, on_own, when_busy, receive}
+use Rattle.ctaphid.specs.Transport.{Transport, Event, nothing, Next, settle, settled, hear}
+use Rattle.ctaphid.specs.Demands.{AnyDevice, standard, Permitted, Taken, after, Begun, IsKnown, UnknownToldAtOnce, NoneShutOut, NoneShutOutByUnknown}
 use Rattle.ctaphid.proofs.Tests.{pick-both, pick_known}
 use Rattle.ctaphid.proofs.Packets.{read_first}
 use Rattle.ctaphid.proofs.Histories.{settings-after}

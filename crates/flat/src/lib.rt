@@ -1,5 +1,6 @@
 // The C boundary by value: every answer as numbers. The exported entries are thin over these.
 #![tactic(auto)]
+
 mod fragments;
 mod waiting;
 

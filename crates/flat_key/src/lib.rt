@@ -1,5 +1,6 @@
 // The C boundary of a key with two interfaces, by value: every answer as numbers. The exported entries are thin over these.
 #![tactic(auto)]
+
 ghost use Rattle.std.specs.Prelude.{◌≡◌};
 ghost use Rattle.key.specs.SetUp.{key_new_of};
 ghost use Rattle.key.specs.Stepping.{main_key_of, vendor_key_of};

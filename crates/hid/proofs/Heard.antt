@@ -11,10 +11,10 @@ use lib.ListN.{length, take, drop, length-append}
 use lib.Seq.{length-take-le, take_at}
 use Rattle.ctaphid.specs.Choice.{pick}
 use Rattle.ctaphid.specs.Limits.{last_time}
-use Rattle.ctaphid.specs.Errors.{Error, ChannelBusy, code}
+use Rattle.ctaphid.specs.Errors.{ChannelBusy}
 use Rattle.ctaphid.specs.Commands.{ERROR, command_of}
 use Rattle.ctaphid.specs.Packets.{Packet, Bytes, read}
-use Rattle.ctaphid.specs.Receiver.{Receiver, idle, busy, Reception, silent, fault, whole, Turn, turn, channel_of, receive, still_due}
+use Rattle.ctaphid.specs.Receiver.{Receiver, idle, busy, Reception, silent, fault, whole, Turn, channel_of, receive, still_due}
 use Rattle.ctaphid.specs.Transport as standard
 use Rattle.ctaphid.specs.Transport.{Transport, next, error, is_valid, not_valid, is_shut, dispatch, settle, with_receiver, serve, hear}
 use Rattle.ctaphid.proofs.Tests.{pick_known}

@@ -34,7 +34,7 @@ use Rattle.hid.specs.State.{having}
 use Rattle.hid.specs.Hearing.{Admits, Hears, stepping, heard_of}
 use Rattle.hid.specs.Refusals.{refusal_of}
 use Rattle.hid.specs.Transport.{admitted_of}
-use Rattle.hid.specs.Shortcut.{Open, Next, Due, TellsNext, TellsDue, GoesOn}
+use Rattle.hid.specs.Shortcut.{Open, Due, TellsNext, TellsDue, GoesOn}
 use Rattle.hid.proofs.Counting.{due-some, due-0}
 use Rattle.hid.proofs.Heard.{same-valid, adds-of, parsed-is, serves, hears-served, hears-packet, heard-packet}
 use Rattle.hid.proofs.Refusing.{step-admitted, step-heard}

@@ -4,26 +4,24 @@ use native.Mathlib.Omega.{arith}
 use mathlib.Core.Path.{◌≡◌, refl, sym, ap, subst, ◌∙◌}
 use mathlib.Core.List.{List, [], ◌∷◌}
 use mathlib.Core.Bool.{Bool, true, false}
-use mathlib.Core.Logic.{◌⊎◌, inl, inr}
+use mathlib.Core.Logic.{inl, inr}
 use borrow.Author.Tests.{eq-eqb, ne_eqb}
 use denote.Enum.Declared.{tag_of}
 use types.Run.{OneOf}
 use lib.Dec.{eqb}
 use Rattle.ctaphid.specs.Choice.{pick}
-use Rattle.ctaphid.specs.Commands.{number, MSG, WINK}
+use Rattle.ctaphid.specs.Commands.{number}
 use Rattle.ctaphid.specs.Errors.{InvalidCmd}
 use Rattle.ctaphid.specs.Transport.{error}
 use Rattle.packet.specs.Numbers.{command_meant}
 use Rattle.packet.specs.declared.command.CtapHidCommand.{CtapHidCommand}
-use Rattle.answers.specs.Replies.{Answering, answering, laid_of}
+use Rattle.answers.specs.Replies.{answering, laid_of}
 use Rattle.answers.specs.declared.Answer.{Answer}
 use Rattle.answers.specs.declared.Answer.TheVariants.{Refused, Nothing, Message, Echo, Reply}
 use Rattle.answers.specs.contracts.Answer as answer
-use Rattle.hid.specs.declared.CtapHid.{CtapHid}
-use Rattle.hid.specs.declared.MainHid.{MainHid}
 use Rattle.hid.specs.declared.MainStepped.{MainStepped}
 use Rattle.hid.specs.declared.Stepped.{Stepped}
-use Rattle.hid.specs.State.{Serving, serving}
+use Rattle.hid.specs.State.{serving}
 use Rattle.hid.specs.MainHid.{outer}
 use Rattle.key.specs.Meaning.{with_last}
 use Rattle.key.specs.VendorHid.{is_strange, saying, finished_by, finished_of}

@@ -2,9 +2,8 @@
 use Prim.Native.Nat.{ℕ, ◌≤◌}
 use native.Mathlib.Omega.{arith}
 use mathlib.Core.Path.{◌≡◌, refl, sym, ap, subst, ◌∙◌}
-use mathlib.Core.Bool.{Bool, true, false, not}
+use mathlib.Core.Bool.{Bool, true, false}
 use mathlib.Core.Logic.{◌⊎◌, inl, inr}
-use borrow.Author.Tests.{not-false}
 use Rattle.ctaphid.specs.Choice.{pick}
 use Rattle.ctaphid.proofs.Tests.{pick_same}
 use Rattle.hid.specs.declared.CtapHid.{CtapHid}

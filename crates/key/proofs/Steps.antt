@@ -27,8 +27,7 @@ use Rattle.packet.proofs.Numbers.{meant-case}
 use Rattle.collect.specs.Adding.{front}
 use Rattle.answers.specs.Replies.{laid_of}
 use Rattle.answers.proofs.Laying.{laid-roomy}
-use Rattle.answers.specs.declared.Answer.{Answer}
-use Rattle.answers.specs.declared.Answer.TheVariants.{Refused, Nothing, Message, Echo, Reply}
+use Rattle.answers.specs.declared.Answer.TheVariants.{Refused, Message, Echo, Reply}
 use Rattle.answers.specs.Answers.{is_echo, answer_of, replied}
 use Rattle.hid.specs.declared.CtapHid.{CtapHid}
 use Rattle.hid.specs.declared.MainHid.{MainHid}
@@ -40,7 +39,7 @@ use Rattle.hid.specs.Hearing.{Stepping, stepping, stepping_of, message_after, he
 use Rattle.hid.specs.Transport.{admitted_of, step_of}
 use Rattle.hid.specs.Soundness.{is_sound}
 use Rattle.hid.specs.Refusals.{refusals_where}
-use Rattle.hid.specs.MainHid.{MainStepping, main_stepping, outer, main_heard_of, main_step_of}
+use Rattle.hid.specs.MainHid.{MainStepping, main_stepping, main_heard_of, main_step_of}
 use Rattle.hid.proofs.Sound.{sound-is}
 use Rattle.key.specs.declared.Key.{Key}
 use Rattle.key.specs.Meaning.{vendor_in, with_last}

@@ -1,7 +1,7 @@
 -- Check 8 on vendor, over the short reply buffer alone. Assumes nothing.
 use Rattle.std.specs.Prelude.{ℕ, List, Bool, true, false, eqb}
 use Rattle.ctaphid.specs.Choice.{pick}
-use Rattle.ctaphid.specs.Commands.{number, MSG, WINK, is}
+use Rattle.ctaphid.specs.Commands.{MSG, WINK, is}
 use Rattle.ctaphid.specs.Errors.{InvalidCmd}
 use Rattle.ctaphid.specs.Transport.{error}
 use Rattle.packet.specs.Numbers.{command_meant}

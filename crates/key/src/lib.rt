@@ -1,6 +1,7 @@
 // A key with two HID interfaces, main and vendor, after OpenSK's lib.rs. Each has its own channels, lock, transaction and maximum; while one holds a running lock,
 // the other is stepped as disabled. Main is a device; vendor is a transport with a check 8 of its own.
 #![tactic(auto)]
+
 mod parts;
 mod questions;
 mod set_up;

@@ -1,5 +1,6 @@
 // The commands that a device knows. OpenSK has no such test: there an unknown command is told so when its message is whole.
 #![tactic(auto)]
+
 mod vendor;
 
 ghost use Rattle.std.specs.Prelude.{◌≡◌};

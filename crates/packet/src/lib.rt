@@ -1,5 +1,6 @@
 // Reading a packet, after the first part of OpenSK's hid/mod.rs.
 #![tactic(auto)]
+
 mod capability;
 mod command;
 mod error;

@@ -1,5 +1,6 @@
 // Packets put together into a message, after OpenSK's hid/receive.rs: checks 3 to 6 of a step (docs/RULES.md).
 #![tactic(auto)]
+
 mod assembler;
 
 // A transaction, as numbers without padding, so that one type serves Rattle, Rust and C. A timer is its deadline, 0 when unset. len is the declared length,

@@ -4,11 +4,9 @@ use native.Mathlib.Omega.{arith}
 use mathlib.Core.Path.{◌≡◌, refl, sym, ap, subst, ◌∙◌}
 use mathlib.Core.List.{List, [], ◌∷◌}
 use borrow.Author.Tests.{le-ltb, eqb-false}
-use lib.Dec.{eqb, ltb}
-use lib.ListN.{length, take}
-use Rattle.ctaphid.specs.Choice.{pick}
-use Rattle.ctaphid.specs.Packets.{Packet, initialization, continuation, read, Bytes}
-use Rattle.ctaphid.specs.Messages.{wire}
+use lib.Dec.{eqb}
+use lib.ListN.{length}
+use Rattle.ctaphid.specs.Packets.{Packet, initialization, continuation, read}
 use Rattle.ctaphid.specs.Host as standard
 use Rattle.ctaphid.specs.Host.{none, collecting, Got, hear, begin, when_none, on_own, answers, reply, at_last, Sendable}
 use Rattle.ctaphid.proofs.Tests.{both-pick}
@@ -16,7 +14,7 @@ use Rattle.ctaphid.proofs.RoundTrip.{round-trips}
 use Rattle.host.specs.declared.Collection.{Collection}
 use Rattle.host.specs.Meaning.{collection_meant, none_begun, Sound}
 use Rattle.runs.specs.HostSteps.{Refines, Comes, Come}
-use Rattle.runs.specs.HostRuns.{HostCall, packets_of, HostLends, on_packet, host_run_of, HostLent, answers_within, HostRunsAlike, Long, ReadsBack}
+use Rattle.runs.specs.HostRuns.{HostCall, packets_of, HostLends, on_packet, answers_within, HostRunsAlike, Long, ReadsBack}
 use Rattle.runs.proofs.HostRefines.{read-refines, sound-stays, length-stays, none-sound, none-meant}
 use Rattle.runs.proofs.HostWire.{Declares, Declare, wire-comes, wire-declares}
 

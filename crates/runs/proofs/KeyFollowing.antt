@@ -3,29 +3,24 @@ use Prim.Native.Nat.{ℕ, ◌≤◌}
 use native.Mathlib.Omega.{arith}
 use mathlib.Core.Path.{◌≡◌, refl, sym, ap, subst, ◌∙◌}
 use mathlib.Core.List.{List}
-use mathlib.Core.Bool.{Bool, true, not}
+use mathlib.Core.Bool.{Bool, not}
 use borrow.Author.Tests.{le-ltb, eq-eqb}
 use lib.Dec.{ltb, eqb}
 use lib.ListN.{length}
-use Rattle.ctaphid.specs.Choice.{pick}
 use Rattle.ctaphid.specs.Limits.{last_time, packet_size}
-use Rattle.ctaphid.specs.Commands.{Command, number}
+use Rattle.ctaphid.specs.Commands.{number}
 use Rattle.ctaphid.specs.Packets.{read}
-use Rattle.ctaphid.specs.Settings.{Settings}
 use Rattle.ctaphid.specs.Transport as standard
 use Rattle.ctaphid.specs.Transport.{Transport, Event, Next, nothing, reply, request, hear, step}
-use Rattle.ctaphid.specs.Device.{Device, device_step}
+use Rattle.ctaphid.specs.Device.{device_step}
 use Rattle.ctaphid.specs.Interfaces as definition
 use Rattle.ctaphid.specs.Interfaces.{Interface, main, vendor, the, Arrival, arrival, seen_as, main_of, request_on_vendor, on_vendor, key_step}
 use Rattle.ctaphid.proofs.Tests.{pick-both}
 use Rattle.ctaphid.proofs.Refusing.{Passed, none-refuse}
 use Rattle.ctaphid.proofs.Packets.{read-formed}
-use Rattle.ctaphid.proofs.Forgetting.{forgotten, forgotten-later}
-use Rattle.ctaphid.proofs.Invariant.{same-settings}
+use Rattle.ctaphid.proofs.Forgetting.{forgotten-later}
 use Rattle.answers.specs.declared.Answer.TheVariants.{Refused}
-use Rattle.answers.specs.Answers.{answer_of, replied, answered, said}
-use Rattle.hid.specs.declared.CtapHid.{CtapHid}
-use Rattle.hid.specs.declared.MainHid.{MainHid}
+use Rattle.answers.specs.Answers.{answered, said}
 use Rattle.hid.specs.Meaning.{transport_of}
 use Rattle.hid.specs.State.{served_of}
 use Rattle.hid.specs.Hearing.{Stepping, stepping, message_after, heard_of}
@@ -34,11 +29,11 @@ use Rattle.hid.specs.MainHid.{MainStepping, main_stepping, main_heard_of}
 use Rattle.key.specs.declared.Key.{Key}
 use Rattle.key.specs.Meaning.{vendor_in, put_main, put_vendor}
 use Rattle.key.specs.Soundness.{KeySound, is_key_sound}
-use Rattle.key.specs.Stepping.{KeyStepping, main_key_of, checked_on_vendor, vendor_heard_of, vendor_key_of, main_laid, vendor_laid}
+use Rattle.key.specs.Stepping.{main_key_of, checked_on_vendor, vendor_heard_of, vendor_key_of, main_laid, vendor_laid}
 use Rattle.key.proofs.Sound.{is-key-sound}
-use Rattle.runs.specs.Steps.{Buffers, buffers, Comes}
+use Rattle.runs.specs.Steps.{Buffers, Comes}
 use Rattle.runs.specs.Lending.{Lends}
-use Rattle.runs.specs.KeySteps.{hid_on, on_call, key_said_by}
+use Rattle.runs.specs.KeySteps.{key_said_by}
 use Rattle.runs.proofs.Refines.{Carried, Lies, no-echo, said-back, heard-right, step_is, main-step-is, kept-long}
 use Rattle.runs.proofs.Following.{Means, Follows, alike, follows_on, MainFollows, main-answers-alike, main-follows-on}
 use Rattle.runs.proofs.KeySteps.{main-stays, vendor-stays}

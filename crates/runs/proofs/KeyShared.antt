@@ -19,9 +19,8 @@ use Rattle.ctaphid.proofs.Refusing.{none-refuse}
 use Rattle.ctaphid.proofs.Forgetting.{forgotten, is-on-forgets}
 use Rattle.ctaphid.proofs.KeyListing.{listing_on, relisted_key, key-after-alike, key-answer-alike}
 use Rattle.ctaphid.proofs.KeyShares.{key-shares-carried, main-is-device-carried}
-use Rattle.answers.specs.Answers.{Said, answered}
+use Rattle.answers.specs.Answers.{answered}
 use Rattle.known.specs.Vendor.{vendor_of, bits_of}
-use Rattle.hid.specs.declared.CtapHid.{CtapHid}
 use Rattle.hid.specs.declared.Running.TheVariants.{Yes, No, Refused}
 use Rattle.hid.specs.Meaning.{transport_of}
 use Rattle.key.specs.declared.Key.{Key}
@@ -33,8 +32,8 @@ use Rattle.key.proofs.Sound.{is-key-sound}
 use Rattle.runs.specs.Steps.{Buffers, Comes}
 use Rattle.runs.specs.Lending.{Lends}
 use Rattle.runs.specs.Share.{answer_in}
-use Rattle.runs.specs.KeySteps.{key_from, hid_on, KeyCall, on_call, key_said_by, key_after}
-use Rattle.runs.specs.KeyShare.{KeyHeld, left_on, KeyCaller, call_for, held_after, key_code, AllRefused, Minds, MindsWell, KeyServes, KeyCodeServes}
+use Rattle.runs.specs.KeySteps.{hid_on, KeyCall, on_call, key_said_by, key_after}
+use Rattle.runs.specs.KeyShare.{KeyHeld, left_on, KeyCaller, call_for, held_after, key_code, AllRefused, Minds, MindsWell, KeyCodeServes}
 use Rattle.runs.proofs.Refines.{fresh-means, same-members}
 use Rattle.runs.proofs.Following.{Means, due-tells}
 use Rattle.runs.proofs.KeySteps.{refused-alters-nothing, key-set-up-taken}

@@ -1,21 +1,18 @@
 -- What a call of the key leaves, whatever is called: all as it came where it is refused, and a sound key in any case. Assumes nothing.
 use Prim.Native.Nat.{ℕ, ◌≤◌, ◌<◌}
 use native.Mathlib.Omega.{arith}
-use mathlib.Core.Path.{◌≡◌, refl, sym, ap, subst, ◌∙◌}
+use mathlib.Core.Path.{◌≡◌, refl, sym, ap, subst}
 use mathlib.Core.List.{List, [], ◌∷◌}
 use mathlib.Core.Bool.{Bool, true, false, not, cond}
 use borrow.Author.Tests.{le-ltb, ltb-false, eqb-true, not-false}
 use lib.Dec.{ltb, eqb}
 use lib.ListN.{length}
-use Rattle.ctaphid.specs.Choice.{pick}
 use Rattle.ctaphid.specs.Limits.{last_time, packet_size}
 use Rattle.ctaphid.specs.Packets.{Bytes, read}
-use Rattle.ctaphid.specs.Settings.{Settings}
 use Rattle.ctaphid.specs.Transport as standard
 use Rattle.ctaphid.specs.Transport.{Lock, Transport, Event, Next, nothing, reply, request, hear}
 use Rattle.ctaphid.specs.Device.{above}
-use Rattle.ctaphid.specs.Interfaces.{Interface, main, vendor, KeySettings, settings_on, Arrival, arrival}
-use Rattle.ctaphid.specs.KeyDemands.{KeyPermitted}
+use Rattle.ctaphid.specs.Interfaces.{Interface, main, vendor, settings_on, arrival}
 use Rattle.ctaphid.proofs.Refusing.{Passed, none-refuse, refused-or, either_way}
 use Rattle.ctaphid.proofs.Device.{same-transport}
 use Rattle.ctaphid.proofs.Interfaces.{Apart, apart-hear}
@@ -36,8 +33,7 @@ use Rattle.key.specs.Meaning.{vendor_in, with_last, put_main, put_vendor}
 use Rattle.key.specs.Soundness.{KeySound, is_key_sound}
 use Rattle.key.specs.SetUp.{key_new_of}
 use Rattle.key.specs.Stepping.{KeyStepping, key_stepping, main_key_of, checked_on_vendor, vendor_heard_of, vendor_key_of, main_laid, vendor_laid}
-use Rattle.key.proofs.Sound.{key-sound-is}
-use Rattle.runs.specs.Steps.{Buffers, buffers, Comes, Roomy}
+use Rattle.runs.specs.Steps.{buffers, Comes}
 use Rattle.runs.specs.KeySteps.{key_from, KeyCall, on_call, key_after, IsRefused, RefusedAltersNothing, KeySoundStays, KeySetUpTaken, AllBytes, NeverTwoLocksRun}
 use Rattle.runs.proofs.Refines.{stays-sound, main-stays-sound, permitted-all, set-up-taken}
 

@@ -1,7 +1,6 @@
 -- Three callers: one that leaves both buffers alone, one that overwrites all that it may, and one that overwrites more. Assumes nothing.
 use Rattle.std.specs.Prelude.{ℕ, ◌-◌, ◌≤◌, List, [], ◌∷◌, ◌++◌, length, take, replicate, ltb, eqb}
 use Rattle.ctaphid.specs.Choice.{pick}
-use Rattle.ctaphid.specs.Transport.{Event}
 use Rattle.ctaphid.specs.Demands.{GivesShare}
 use Rattle.hid.specs.declared.CtapHid.{CtapHid}
 use Rattle.runs.specs.Steps.{Buffers, buffers}

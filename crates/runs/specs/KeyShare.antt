@@ -2,12 +2,11 @@
 use Rattle.std.specs.Prelude.{ℕ, ◌≤◌, ◌≡◌, List, [], ◌∷◌, ltb, length}
 use Rattle.ctaphid.specs.Choice.{pick}
 use Rattle.ctaphid.specs.Receiver.{is_on, still_due}
-use Rattle.ctaphid.specs.Transport.{Next, next, is_locked, is_locked_by}
+use Rattle.ctaphid.specs.Transport.{next, is_locked, is_locked_by}
 use Rattle.ctaphid.specs.Device.{is_winking}
 use Rattle.ctaphid.specs.Interfaces.{Interface, main, vendor, the, KeySettings, Arrival, arrival, side, main_of}
 use Rattle.ctaphid.specs.KeyDemands.{AnyKey, standard_key, KeyPermitted, latest_of, TakenBy, after_by, answer_by, only, checked, SharesOut, MainIsDevice}
 use Rattle.answers.specs.Answers.{answered}
-use Rattle.hid.specs.declared.Running.{Running}
 use Rattle.hid.specs.declared.Running.TheVariants.{Yes, No}
 use Rattle.hid.specs.Meaning.{transport_of}
 use Rattle.key.specs.declared.Key.{Key}

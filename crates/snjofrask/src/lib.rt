@@ -1,5 +1,6 @@
 // The static library's entries, for C and Rust. Each is thin over the same by value; flags are numbers, of which 0 is not set.
 #![tactic(auto)]
+
 ghost use Rattle.std.specs.Prelude.{◌≡◌};
 ghost use Rattle.hid.specs.Transport.{step_of};
 ghost use Rattle.hid.specs.MainHid.{main_step_of};
@@ -25,12 +26,7 @@ use touch::Wait;
 
 // A fresh transport, with the largest message that it takes and the numbers of the vendor commands that it knows. 0, or refusal 5 or 13, which leaves hid as
 // it came.
-pub fn snjofrask_transport_new(
-    hid: &mut CtapHid,
-    max: usize,
-    u2f: u8,
-    vendor: &[u8],
-) -> u8
+pub fn snjofrask_transport_new(hid: &mut CtapHid, max: usize, u2f: u8, vendor: &[u8]) -> u8
     ensures { record { hid = hid.new; refusal = result } ≡ made_of hid.old (new_of max (is_set u2f) vendor.now) }
 {
     let made = flat::transport_new(*hid, max, u2f, vendor);
@@ -96,13 +92,7 @@ pub fn snjofrask_is_winking(hid: &MainHid, time: u64) -> u8
 // ---- the wait for a touch
 
 // A wait for a request of this interface and channel, from a time on, with a limit in milliseconds. 0, or refusal 4, which leaves wait as it came.
-pub fn snjofrask_wait_begin(
-    wait: &mut Wait,
-    interface: u32,
-    cid: u32,
-    time: u64,
-    limit: u32,
-) -> u8
+pub fn snjofrask_wait_begin(wait: &mut Wait, interface: u32, cid: u32, time: u64, limit: u32) -> u8
     ensures { record { wait = wait.new; refusal = result } ≡ made_wait_of wait.old (begin_of interface cid time limit) }
 {
     let made = flat::wait_begin(*wait, interface, cid, time, limit);

@@ -1,5 +1,6 @@
 // The static library: what C and Rust link, each entry of the library snjofrask under its name, with its clauses.
 #![tactic(auto)]
+
 ghost use Rattle.std.specs.Prelude.{◌≡◌};
 ghost use Rattle.hid.specs.Transport.{step_of};
 ghost use Rattle.hid.specs.MainHid.{main_step_of};

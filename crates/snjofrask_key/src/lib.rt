@@ -1,6 +1,7 @@
 // A static library of its own, for a key with two interfaces: entries for C and Rust. Each is thin over the same by value; flags are numbers, of which 0 is not
 // set. Packets, waits and the host's end are the other library's.
 #![tactic(auto)]
+
 ghost use Rattle.std.specs.Prelude.{◌≡◌};
 ghost use Rattle.key.specs.SetUp.{key_new_of};
 ghost use Rattle.key.specs.Stepping.{main_key_of, vendor_key_of, main_laid, vendor_laid};
@@ -13,13 +14,7 @@ use key::Key;
 
 // A fresh key, with the largest message that each interface takes and the numbers of the vendor commands that both know. 0, or refusal 5 or 13, which leaves key as
 // it came.
-pub fn snjofrask_key_new(
-    key: &mut Key,
-    main: usize,
-    vendor: usize,
-    u2f: u8,
-    commands: &[u8],
-) -> u8
+pub fn snjofrask_key_new(key: &mut Key, main: usize, vendor: usize, u2f: u8, commands: &[u8]) -> u8
     ensures { record { key = key.new; refusal = result } ≡ key_made_of key.old (key_new_of main vendor (is_set u2f) commands.now) }
 {
     let made = flat_key::key_new(*key, main, vendor, u2f, commands);

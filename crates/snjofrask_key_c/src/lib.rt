@@ -1,5 +1,6 @@
 // The static library of a key with two interfaces: what C and Rust link, each entry of the library snjofrask_key under its name, with its clauses.
 #![tactic(auto)]
+
 ghost use Rattle.std.specs.Prelude.{◌≡◌};
 ghost use Rattle.key.specs.SetUp.{key_new_of};
 ghost use Rattle.key.specs.Stepping.{main_key_of, vendor_key_of, main_laid, vendor_laid};

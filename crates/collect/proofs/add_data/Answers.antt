@@ -2,11 +2,10 @@ use Prim.Native.Nat.{◌+◌}
 use native.Mathlib.Omega.{arith}
 use mathlib.Core.Path.{◌≡◌, sym, ap, ◌∙◌}
 use mathlib.Core.List.{◌++◌}
-use lib.ListN.{length, take, drop, length-take}
+use lib.ListN.{length, take, drop}
 use Rattle.collect.specs.Adding.{added}
 use Rattle.collect.specs.declared.Added.TheVariants.{Waiting, Whole}
 use Rattle.collect.proofs.Adding.{put_front, put-left, add-over, add-room, add-waits, add-whole}
-use Rattle.std.proofs.Common.{rules}
 use Rattle.collect.proofs.add_data.Goals as goal
 
 pub returns-then-taken-len : goal.returns-then-taken-len

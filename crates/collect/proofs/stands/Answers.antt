@@ -1,6 +1,5 @@
 use Rattle.ctaphid.proofs.Tests.{tests}
 use Rattle.collect.specs.Standing.{is_standing}
-use Rattle.std.proofs.Common.{rules}
 use Rattle.collect.proofs.stands.Goals as goal
 
 pub returns-then-len-le57 : goal.returns-then-len-le57

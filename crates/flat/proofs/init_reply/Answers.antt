@@ -1,7 +1,5 @@
 use native.Mathlib.Omega.{arith}
 use Rattle.host.proofs.Fields.{rest-most}
-use Rattle.flat.proofs.Telling.{telling}
-use Rattle.std.proofs.Common.{rules}
 use Rattle.flat.proofs.init_reply.Goals as goal
 
 pub overflow_cast-result : goal.overflow_cast-result

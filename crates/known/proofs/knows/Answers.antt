@@ -1,5 +1,4 @@
 use Rattle.known.proofs.Requests.{requests, beyond}
-use Rattle.std.proofs.Common.{rules}
 use Rattle.known.proofs.knows.Goals as goal
 
 pub returns-then-cmd-lt32 : goal.returns-then-cmd-lt32

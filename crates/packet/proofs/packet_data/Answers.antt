@@ -1,6 +1,5 @@
 use native.Mathlib.Omega.{arith}
 use native.Mathlib.Nat.{zero-add}
-use Rattle.std.proofs.Common.{rules}
 use Rattle.packet.proofs.Parts.{rest}
 use Rattle.packet.proofs.Packets.{refuses, reads_first, reads-later}
 use Rattle.packet.proofs.packet_data.Goals as goal

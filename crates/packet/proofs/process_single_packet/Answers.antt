@@ -2,7 +2,6 @@ use native.Mathlib.Omega.{arith}
 use mathlib.Core.Path.{sym}
 use Rattle.ctaphid.specs.Packets.{channel_in, declared_in}
 use Rattle.packet.proofs.Packets.{refuses, reads_first, reads-later}
-use Rattle.std.proofs.Common.{rules}
 use Rattle.packet.proofs.process_single_packet.Goals as goal
 
 pub returns-then-packet-ne-PACKET_SIZE : goal.returns-then-packet-ne-PACKET_SIZE

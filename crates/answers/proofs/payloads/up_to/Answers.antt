@@ -1,7 +1,5 @@
-use mathlib.Core.Path.{refl, sym}
-use lib.Seq.{length-take-le}
+use mathlib.Core.Path.{refl}
 use Rattle.answers.proofs.Fronts.{up_to_fits, up-to-short}
-use Rattle.std.proofs.Common.{rules}
 use Rattle.answers.proofs.payloads.up_to.Goals as goal
 
 pub returns-then-len-buffer : goal.returns-then-len-buffer

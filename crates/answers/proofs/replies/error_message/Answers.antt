@@ -1,5 +1,4 @@
 use Rattle.answers.proofs.Laying.{error-refused, error-laid}
-use Rattle.std.proofs.Common.{rules}
 use Rattle.answers.proofs.replies.error_message.Goals as goal
 
 pub returns-then-reply-lt-SHORT_REPLY_SIZE : goal.returns-then-reply-lt-SHORT_REPLY_SIZE

@@ -4,7 +4,6 @@ use Rattle.ctaphid.specs.Bluetooth.{Taken}
 use Rattle.ctaphid.proofs.Bluetooth.{hear-over, hear-none, hear-is, read_none, read_short, read-begins, read-follows}
 use Rattle.ble.specs.Reading.{laid}
 use Rattle.ble.proofs.Receiving.{left-refused}
-use Rattle.std.proofs.Common.{rules}
 use Rattle.ble.proofs.reading.hear.Goals as goal
 
 pub returns-then-len-size : goal.returns-then-len-size

@@ -4,7 +4,6 @@ use Rattle.ctaphid.specs.Bluetooth.{Taken}
 use Rattle.packet.proofs.Parts.{rest}
 use Rattle.ble.specs.Reading.{laid}
 use Rattle.ble.proofs.Receiving.{left-refused, none-begun, another, follows}
-use Rattle.std.proofs.Common.{rules}
 use Rattle.ble.proofs.reading.later.Goals as goal
 
 pub returns-then-collection-eq0 : goal.returns-then-collection-eq0

@@ -1,5 +1,4 @@
 use Rattle.ble.proofs.Receiving.{read-14, read-3, read-sound, read-heard}
-use Rattle.std.proofs.Common.{rules}
 use Rattle.std.proofs.lemmas.Bool.{not_from_false, not_from_true}
 use Rattle.ble.proofs.reading.read_fragment.Goals as goal
 

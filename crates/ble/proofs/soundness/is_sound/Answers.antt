@@ -1,6 +1,5 @@
 use Rattle.ctaphid.proofs.Tests.{tests}
 use Rattle.ble.specs.Soundness.{is_sound}
-use Rattle.std.proofs.Common.{rules}
 use Rattle.ble.proofs.soundness.is_sound.Goals as goal
 
 pub returns-then-collection-eq0 : goal.returns-then-collection-eq0

@@ -1,14 +1,12 @@
-use Prim.Native.Nat.{ℕ, suc, ◌+◌, ◌-◌, ◌*◌, ◌%◌, ◌<◌}
+use Prim.Native.Nat.{ℕ, suc, ◌+◌, ◌-◌, ◌*◌, ◌%◌}
 use native.Mathlib.Omega.{arith}
 use mathlib.Core.Path.{◌≡◌, sym, ap, ◌∙◌}
 use mathlib.Core.List.{List, [], ◌∷◌}
-use lib.ListN.{length, take, get_or}
+use lib.ListN.{take, get_or}
 use Rattle.ctaphid.specs.Bluetooth.{written, fragments_written}
 use Rattle.ctaphid.proofs.Bluetooth.{wire-first, wire-later, wire-length}
 use Rattle.packet.proofs.Parts.{rest}
 use Rattle.ble.specs.Writing.{put}
-use Rattle.ble.proofs.Sending.{place-within}
-use Rattle.std.proofs.Common.{rules}
 use Rattle.ble.proofs.writing.put_fragment.Goals as goal
 
 pub returns-then-index-eq0 : goal.returns-then-index-eq0

@@ -1,7 +1,6 @@
 use native.Mathlib.Omega.{arith}
 use mathlib.Core.Path.{◌∙◌}
 use Rattle.ble.proofs.Sending.{sized, write-14, write-2, write-12, write-7, write-6, writes}
-use Rattle.std.proofs.Common.{rules}
 use Rattle.std.proofs.lemmas.Bool.{not_from_false, not_from_true}
 use Rattle.ble.proofs.writing.write_fragment.Goals as goal
 

@@ -1,5 +1,4 @@
 use Rattle.channels.proofs.Inits.{inits}
-use Rattle.std.proofs.Common.{rules}
 use Rattle.channels.proofs.allocating.answer_init.Goals as goal
 
 pub returns-then-nonce-ne8 : goal.returns-then-nonce-ne8

@@ -1,5 +1,4 @@
 use Rattle.channels.proofs.Inits.{init-calls}
-use Rattle.std.proofs.Common.{rules}
 use Rattle.channels.proofs.allocating.init.Goals as goal
 
 pub returns-then-reply-lt-SHORT_REPLY_SIZE : goal.returns-then-reply-lt-SHORT_REPLY_SIZE

@@ -1,6 +1,5 @@
 use Rattle.ctaphid.proofs.Tests.{tests}
 use Rattle.ctaphid.specs.Transport.{next_channel}
-use Rattle.std.proofs.Common.{rules}
 use Rattle.channels.proofs.allocating.next_channel.Goals as goal
 
 pub returns-then-allocated-eq-MAX_CID : goal.returns-then-allocated-eq-MAX_CID

@@ -1,5 +1,4 @@
 use Rattle.channels.proofs.Locks.{locks}
-use Rattle.std.proofs.Common.{rules}
 use Rattle.channels.proofs.locking.answer_lock.Goals as goal
 
 pub returns-then-payload-ne1 : goal.returns-then-payload-ne1

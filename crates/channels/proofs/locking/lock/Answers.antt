@@ -1,5 +1,4 @@
 use Rattle.channels.proofs.Locks.{lock-calls}
-use Rattle.std.proofs.Common.{rules}
 use Rattle.channels.proofs.locking.lock.Goals as goal
 
 pub returns-then-reply-lt-SHORT_REPLY_SIZE : goal.returns-then-reply-lt-SHORT_REPLY_SIZE

@@ -1,6 +1,5 @@
 use Rattle.ctaphid.proofs.Tests.{tests}
 use Rattle.channels.proofs.Valid.{valid-first, valid-later}
-use Rattle.std.proofs.Common.{rules}
 use Rattle.channels.proofs.validity.has_valid_channel.Goals as goal
 
 pub returns-then-cid : goal.returns-then-cid

@@ -1,5 +1,4 @@
 use Rattle.channels.proofs.Valid.{not-valid-first, not-valid-later}
-use Rattle.std.proofs.Common.{rules}
 use Rattle.channels.proofs.validity.not_valid.Goals as goal
 
 pub returns-in-ContinuationPacket : goal.returns-in-ContinuationPacket

@@ -1,5 +1,4 @@
 use Rattle.hid.proofs.SettingUp.{setting_up}
-use Rattle.std.proofs.Common.{rules}
 use Rattle.hid.proofs.CtapHid.new.Goals as goal
 
 pub returns-then-max-gt-LARGEST_PAYLOAD : goal.returns-then-max-gt-LARGEST_PAYLOAD

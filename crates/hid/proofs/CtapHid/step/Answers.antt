@@ -1,5 +1,4 @@
 use Rattle.hid.proofs.Shortening.{short-asks, short-step}
-use Rattle.std.proofs.Common.{rules}
 use Rattle.hid.proofs.CtapHid.step.Goals as goal
 
 pub go_on-next-requires : goal.go_on-next-requires

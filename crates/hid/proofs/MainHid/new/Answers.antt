@@ -1,5 +1,4 @@
 use Rattle.hid.proofs.SettingUp.{setting_up}
-use Rattle.std.proofs.Common.{rules}
 use Rattle.hid.proofs.MainHid.new.Goals as goal
 
 pub returns-in-Hid : goal.returns-in-Hid

@@ -1,6 +1,5 @@
 use Rattle.hid.proofs.Shortening.{short-asks}
 use Rattle.hid.proofs.Finishing.{finished-short, main-asks, main-finished}
-use Rattle.std.proofs.Common.{rules}
 use Rattle.hid.proofs.MainHid.step.Goals as goal
 
 pub go_on-next-requires : goal.go_on-next-requires

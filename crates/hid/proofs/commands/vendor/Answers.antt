@@ -1,5 +1,4 @@
 use Rattle.hid.proofs.Served.{vendor-out, vendor-off}
-use Rattle.std.proofs.Common.{rules}
 use Rattle.hid.proofs.commands.vendor.Goals as goal
 
 pub returns-then-is_allowed : goal.returns-then-is_allowed

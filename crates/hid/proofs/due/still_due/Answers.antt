@@ -1,5 +1,4 @@
-use native.Mathlib.Omega.{arith}
-use Rattle.hid.proofs.Counting.{due-0, due-taken, due-within, due-missing}
+use Rattle.hid.proofs.Counting.{due-0, due-missing}
 use Rattle.hid.proofs.due.still_due.Goals as goal
 
 pub returns-then-a-eq0 : goal.returns-then-a-eq0

@@ -1,5 +1,4 @@
 use Rattle.hid.proofs.Heard.{hearing}
-use Rattle.std.proofs.Common.{rules}
 use Rattle.hid.proofs.hearing.hear.Goals as goal
 
 pub returns : goal.returns

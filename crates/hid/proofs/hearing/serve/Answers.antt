@@ -1,5 +1,4 @@
 use Rattle.hid.proofs.Heard.{counts_of, serves-of, serves}
-use Rattle.std.proofs.Common.{rules}
 use Rattle.hid.proofs.hearing.serve.Goals as goal
 
 pub still_due-due-requires : goal.still_due-due-requires

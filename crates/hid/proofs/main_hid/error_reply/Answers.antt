@@ -1,5 +1,4 @@
 use Rattle.hid.proofs.Finishing.{outers}
-use Rattle.std.proofs.Common.{rules}
 use Rattle.hid.proofs.main_hid.error_reply.Goals as goal
 
 pub returns : goal.returns

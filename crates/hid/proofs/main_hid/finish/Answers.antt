@@ -1,5 +1,4 @@
-use Rattle.hid.proofs.Finishing.{outers, asks-message}
-use Rattle.std.proofs.Common.{rules}
+use Rattle.hid.proofs.Finishing.{outers}
 use Rattle.hid.proofs.main_hid.finish.Goals as goal
 
 pub returns-in-Message : goal.returns-in-Message

@@ -1,5 +1,4 @@
 use Rattle.hid.proofs.Finishing.{outers}
-use Rattle.std.proofs.Common.{rules}
 use Rattle.hid.proofs.main_hid.on_msg.Goals as goal
 
 pub returns-then-hid-eq0 : goal.returns-then-hid-eq0

@@ -1,5 +1,4 @@
 use Rattle.hid.proofs.Finishing.{outers}
-use Rattle.std.proofs.Common.{rules}
 use Rattle.hid.proofs.main_hid.on_request.Goals as goal
 
 pub returns-then-number-eq-WINK : goal.returns-then-number-eq-WINK

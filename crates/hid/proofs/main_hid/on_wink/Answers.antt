@@ -1,5 +1,4 @@
 use Rattle.hid.proofs.Finishing.{outers}
-use Rattle.std.proofs.Common.{rules}
 use Rattle.hid.proofs.main_hid.on_wink.Goals as goal
 
 pub returns-then-len-ne0 : goal.returns-then-len-ne0

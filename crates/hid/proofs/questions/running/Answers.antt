@@ -1,6 +1,5 @@
 use Rattle.hid.specs.Questions.{running_of}
 use Rattle.hid.proofs.Refusing.{running-sound, running-unsound}
-use Rattle.std.proofs.Common.{rules}
 use Rattle.hid.proofs.questions.running.Goals as goal
 
 pub returns-then-is_sound : goal.returns-then-is_sound

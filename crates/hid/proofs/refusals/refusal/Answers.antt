@@ -1,5 +1,4 @@
 use Rattle.hid.proofs.Refusing.{refusal}
-use Rattle.std.proofs.Common.{rules}
 use Rattle.hid.proofs.refusals.refusal.Goals as goal
 
 pub returns-then-packet-ne-PACKET_SIZE : goal.returns-then-packet-ne-PACKET_SIZE

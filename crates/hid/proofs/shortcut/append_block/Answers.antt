@@ -7,7 +7,6 @@ use Rattle.collect.specs.Adding.{front, added, add_of}
 use Rattle.collect.specs.declared.Added.TheVariants.{Waiting}
 use Rattle.collect.proofs.Adding.{put_front, add-waits}
 use Rattle.receive.proofs.Receiving.{collected-waiting}
-use Rattle.std.proofs.Common.{rules}
 use Rattle.hid.proofs.shortcut.append_block.Goals as goal
 
 pub returns : goal.returns

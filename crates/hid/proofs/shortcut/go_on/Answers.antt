@@ -1,7 +1,6 @@
 use native.Mathlib.Omega.{arith}
 use mathlib.Core.Path.{refl}
 use Rattle.hid.proofs.Shortening.{number-low, block-low, renewed-adds, block, goes_on}
-use Rattle.std.proofs.Common.{rules}
 use Rattle.hid.proofs.shortcut.go_on.Goals as goal
 
 pub overflow_add-next-2 : goal.overflow_add-next-2

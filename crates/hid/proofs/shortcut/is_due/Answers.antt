@@ -1,5 +1,4 @@
 use Rattle.hid.proofs.Shortening.{due-told}
-use Rattle.std.proofs.Common.{rules}
 use Rattle.hid.proofs.shortcut.is_due.Goals as goal
 
 pub returns-in-Packet : goal.returns-in-Packet

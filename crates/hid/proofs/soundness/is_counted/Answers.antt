@@ -1,5 +1,4 @@
 use Rattle.hid.proofs.Sound.{counted}
-use Rattle.std.proofs.Common.{rules}
 use Rattle.hid.proofs.soundness.is_counted.Goals as goal
 
 pub returns-then-a-gt127 : goal.returns-then-a-gt127

@@ -1,6 +1,5 @@
 use Rattle.ctaphid.proofs.Tests.{tests}
 use Rattle.hid.specs.Soundness.{is_held}
-use Rattle.std.proofs.Common.{rules}
 use Rattle.hid.proofs.soundness.is_held.Goals as goal
 
 pub returns-then-hid : goal.returns-then-hid

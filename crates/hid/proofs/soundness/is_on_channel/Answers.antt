@@ -1,7 +1,6 @@
 use Rattle.ctaphid.proofs.Tests.{tests}
 use Rattle.hid.specs.Soundness.{is_on_channel}
 use Rattle.hid.proofs.Sound.{allocated-yes, allocated-no}
-use Rattle.std.proofs.Common.{rules}
 use Rattle.hid.proofs.soundness.is_on_channel.Goals as goal
 
 pub returns-then-is_allocated : goal.returns-then-is_allocated

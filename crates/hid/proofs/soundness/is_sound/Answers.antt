@@ -1,7 +1,6 @@
 use Rattle.ctaphid.proofs.Tests.{tests}
 use Rattle.hid.specs.Soundness.{is_sound}
 use Rattle.hid.proofs.Sound.{timely-yes, timely-no}
-use Rattle.std.proofs.Common.{rules}
 use Rattle.hid.proofs.soundness.is_sound.Goals as goal
 
 pub returns-then-hid-gt7609 : goal.returns-then-hid-gt7609

@@ -1,6 +1,5 @@
 use Rattle.ctaphid.proofs.Tests.{tests}
 use Rattle.hid.specs.Soundness.{is_timely}
-use Rattle.std.proofs.Common.{rules}
 use Rattle.hid.proofs.soundness.is_timely.Goals as goal
 
 pub returns-then-assembler-hid : goal.returns-then-assembler-hid

@@ -1,7 +1,6 @@
 use Rattle.ctaphid.proofs.Tests.{tests}
 use Rattle.hid.specs.Soundness.{transacts}
 use Rattle.hid.proofs.Sound.{counted-yes, counted-no, transacts-none, transacts-some}
-use Rattle.std.proofs.Common.{rules}
 use Rattle.hid.proofs.soundness.transacts.Goals as goal
 
 pub returns-then-hid-eq0 : goal.returns-then-hid-eq0

@@ -1,5 +1,4 @@
 use Rattle.hid.proofs.Heard.{hearing, arriving-busy}
-use Rattle.std.proofs.Common.{rules}
 use Rattle.hid.proofs.state.at_time.Goals as goal
 
 pub returns-then-assembler-eq0 : goal.returns-then-assembler-eq0

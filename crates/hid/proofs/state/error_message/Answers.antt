@@ -1,5 +1,4 @@
 use Rattle.hid.proofs.Served.{laid}
-use Rattle.std.proofs.Common.{rules}
 use Rattle.hid.proofs.state.error_message.Goals as goal
 
 pub returns : goal.returns

@@ -1,5 +1,4 @@
 use Rattle.hid.proofs.Refusing.{step-refused, step-admitted, step-heard}
-use Rattle.std.proofs.Common.{rules}
 use Rattle.hid.proofs.transport.admit.Goals as goal
 
 pub returns-then-number-ne0 : goal.returns-then-number-ne0

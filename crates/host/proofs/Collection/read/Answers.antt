@@ -1,5 +1,4 @@
 use Rattle.host.proofs.Refusing.{read-1, read-3, read-admitted, read-heard}
-use Rattle.std.proofs.Common.{rules}
 use Rattle.host.proofs.Collection.read.Goals as goal
 
 pub returns-then-packet-ne-PACKET_SIZE : goal.returns-then-packet-ne-PACKET_SIZE

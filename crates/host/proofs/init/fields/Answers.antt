@@ -1,5 +1,4 @@
 use Rattle.host.proofs.Fields.{fields-are}
-use Rattle.std.proofs.Common.{rules}
 use Rattle.host.proofs.init.fields.Goals as goal
 
 pub returns : goal.returns

@@ -1,5 +1,4 @@
 use Rattle.host.proofs.Fields.{taken_is, reply-taken, reply-none}
-use Rattle.std.proofs.Common.{rules}
 use Rattle.host.proofs.init.init_reply.Goals as goal
 
 pub fields-requires : goal.fields-requires

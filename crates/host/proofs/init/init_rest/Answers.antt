@@ -1,8 +1,6 @@
 use native.Mathlib.Omega.{arith}
-use native.Mathlib.Nat.{zero-add}
-use Rattle.std.proofs.Common.{rules}
 use Rattle.packet.proofs.Parts.{rest}
-use Rattle.host.proofs.Fields.{taken_is, none_is}
+use Rattle.host.proofs.Fields.{taken_is}
 use Rattle.host.proofs.init.init_rest.Goals as goal
 
 pub slice_bounds-result-count : goal.slice_bounds-result-count

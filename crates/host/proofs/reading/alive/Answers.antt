@@ -1,7 +1,6 @@
 use Rattle.ctaphid.proofs.Tests.{tests}
 use Rattle.host.proofs.Receiving.{hearing}
 use Rattle.ctaphid.specs.Host.{alive}
-use Rattle.std.proofs.Common.{rules}
 use Rattle.host.proofs.reading.alive.Goals as goal
 
 pub returns-then-len-ne1 : goal.returns-then-len-ne1

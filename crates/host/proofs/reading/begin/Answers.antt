@@ -1,7 +1,6 @@
 use Rattle.ctaphid.proofs.Tests.{tests}
 use Rattle.host.proofs.Receiving.{hearing, gathers}
 use Rattle.ctaphid.specs.Host.{begin}
-use Rattle.std.proofs.Common.{rules}
 use Rattle.host.proofs.reading.begin.Goals as goal
 
 pub returns-then-len-gt-LARGEST_PAYLOAD : goal.returns-then-len-gt-LARGEST_PAYLOAD

@@ -1,6 +1,5 @@
 use Rattle.ctaphid.proofs.Tests.{tests}
 use Rattle.host.proofs.Receiving.{hearing}
-use Rattle.std.proofs.Common.{rules}
 use Rattle.host.proofs.reading.first.Goals as goal
 
 pub returns-then-cmd-eq-KEEPALIVE : goal.returns-then-cmd-eq-KEEPALIVE

@@ -2,7 +2,6 @@ use Prim.Native.Nat.{◌<◌}
 use native.Mathlib.Omega.{arith}
 use Rattle.ctaphid.proofs.Tests.{tests}
 use Rattle.host.proofs.Receiving.{hearing, waits-low}
-use Rattle.std.proofs.Common.{rules}
 use Rattle.host.proofs.reading.gather.Goals as goal
 
 pub overflow_cast-next : goal.overflow_cast-next

@@ -1,9 +1,5 @@
-use Prim.Native.Nat.{◌≤◌}
-use native.Mathlib.Omega.{arith}
 use Rattle.ctaphid.proofs.Tests.{tests}
-use Rattle.host.proofs.Receiving.{hearing, gathers, first_some}
-use Rattle.host.proofs.Sound.{taken_of, room_of, due-of}
-use Rattle.std.proofs.Common.{rules}
+use Rattle.host.proofs.Receiving.{hearing, gathers}
 use Rattle.host.proofs.reading.hear.Goals as goal
 
 pub returns-then-from-cid : goal.returns-then-from-cid

@@ -1,5 +1,4 @@
 use Rattle.key.proofs.SettingUp.{ready}
-use Rattle.std.proofs.Common.{rules}
 use Rattle.key.proofs.Key.new.Goals as goal
 
 pub returns-then-vendor-gt-LARGEST_PAYLOAD : goal.returns-then-vendor-gt-LARGEST_PAYLOAD

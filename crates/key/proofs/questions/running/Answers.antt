@@ -1,6 +1,5 @@
 use Rattle.hid.proofs.Refusing.{running-sound, running-unsound}
 use Rattle.key.specs.Questions.{key_running_of}
-use Rattle.std.proofs.Common.{rules}
 use Rattle.key.proofs.questions.running.Goals as goal
 
 pub returns-then-is_key_sound : goal.returns-then-is_key_sound

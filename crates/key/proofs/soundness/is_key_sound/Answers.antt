@@ -1,5 +1,4 @@
 use Rattle.key.proofs.Sound.{key-tests}
-use Rattle.std.proofs.Common.{rules}
 use Rattle.key.proofs.soundness.is_key_sound.Goals as goal
 
 pub returns-then-is_sound : goal.returns-then-is_sound

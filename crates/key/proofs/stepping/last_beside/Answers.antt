@@ -1,5 +1,4 @@
 use Rattle.key.proofs.Fitting.{beside}
-use Rattle.std.proofs.Common.{rules}
 use Rattle.key.proofs.stepping.last_beside.Goals as goal
 
 pub returns-then-is_fit : goal.returns-then-is_fit

@@ -1,5 +1,4 @@
 use Rattle.key.proofs.Finishing.{finishes, finish-through}
-use Rattle.std.proofs.Common.{rules}
 use Rattle.key.proofs.vendor_hid.finish.Goals as goal
 
 pub returns-then-is_strange : goal.returns-then-is_strange

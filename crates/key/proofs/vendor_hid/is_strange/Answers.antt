@@ -1,5 +1,4 @@
 use Rattle.key.proofs.Finishing.{strange}
-use Rattle.std.proofs.Common.{rules}
 use Rattle.key.proofs.vendor_hid.is_strange.Goals as goal
 
 pub returns-then-number-eq-WINK : goal.returns-then-number-eq-WINK

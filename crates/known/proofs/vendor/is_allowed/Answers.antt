@@ -2,7 +2,6 @@ use native.Mathlib.Omega.{arith}
 use mathlib.Core.Path.{sym, ◌∙◌}
 use Rattle.ctaphid.proofs.Commands.{vendor-range}
 use Rattle.known.proofs.Bits.{tested, not_tested}
-use Rattle.std.proofs.Common.{rules}
 use Rattle.known.proofs.vendor.is_allowed.Goals as goal
 
 pub overflow_sub-result : goal.overflow_sub-result

@@ -1,10 +1,10 @@
-use Prim.Native.Nat.{ℕ, ◌+◌, ◌-◌, ◌≤◌}
+use Prim.Native.Nat.{ℕ, ◌+◌}
 use native.Mathlib.Omega.{arith}
-use mathlib.Core.Path.{◌≡◌, refl, sym, ap, ◌∙◌}
+use mathlib.Core.Path.{refl, sym, ap, ◌∙◌}
 use lib.Bits.{bit_or}
-use lib.ListN.{length, drop}
+use lib.ListN.{drop}
 use Rattle.ctaphid.proofs.Commands.{vendor-range}
-use Rattle.known.specs.Vendor.{all_vendor, bits_with, bits_of}
+use Rattle.known.specs.Vendor.{bits_with}
 use Rattle.known.specs.declared.vendor.Listed.TheVariants.{Bits}
 use Rattle.known.proofs.Bits.{vendor-next, vendor-not, vendor-end, bits-next, bits-end, listed-all, listed-not}
 use Rattle.std.proofs.Common.{rules}

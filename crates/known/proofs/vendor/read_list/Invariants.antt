@@ -1,13 +1,7 @@
-use Prim.Native.Nat.{ℕ, ◌+◌, ◌-◌, ◌≤◌}
-use native.Mathlib.Omega.{arith}
-use mathlib.Core.Path.{◌≡◌, refl, sym, ap, ◌∙◌}
-use lib.Bits.{bit_or}
+use Prim.Native.Nat.{◌-◌, ◌≤◌}
+use mathlib.Core.Path.{◌≡◌}
 use lib.ListN.{length, drop}
-use Rattle.ctaphid.proofs.Commands.{vendor-range}
 use Rattle.known.specs.Vendor.{all_vendor, bits_with, bits_of}
-use Rattle.known.specs.declared.vendor.Listed.TheVariants.{Bits}
-use Rattle.known.proofs.Bits.{vendor-next, vendor-not, vendor-end, bits-next, bits-end, listed-all, listed-not}
-use Rattle.std.proofs.Common.{rules}
 use Rattle.known.proofs.vendor.read_list.Given as goal
 
 abbrev pub invariant-loop-i : goal.invariant-loop-i

@@ -1,5 +1,4 @@
 use Rattle.receive.proofs.Receiving.{sound}
-use Rattle.std.proofs.Common.{rules}
 use Rattle.receive.proofs.MessageAssembler.is_sound.Goals as goal
 
 pub returns-then-self-eq0 : goal.returns-then-self-eq0

@@ -1,5 +1,4 @@
 use Rattle.receive.proofs.Receiving.{parse-refused, parse-receives, parse-received}
-use Rattle.std.proofs.Common.{rules}
 use Rattle.receive.proofs.MessageAssembler.parse_packet.Goals as goal
 
 pub returns-then-number-ne0 : goal.returns-then-number-ne0

@@ -2,7 +2,6 @@ use Prim.Native.Nat.{◌<◌}
 use native.Mathlib.Omega.{arith}
 use Rattle.ctaphid.proofs.Tests.{tests}
 use Rattle.receive.proofs.Receiving.{turns, waits-low}
-use Rattle.std.proofs.Common.{rules}
 use Rattle.receive.proofs.assembler.append_payload.Goals as goal
 
 pub overflow_cast-next : goal.overflow_cast-next

@@ -1,7 +1,6 @@
 use borrow.Author.Tests.{eq-eqb, ne_eqb}
 use Rattle.ctaphid.proofs.Tests.{tests}
 use Rattle.receive.proofs.Receiving.{turns, yes-turn, no-turn, own_first, reset-fault}
-use Rattle.std.proofs.Common.{rules}
 use Rattle.receive.proofs.assembler.on_own.Goals as goal
 
 pub returns-then-cmd-eq-INIT : goal.returns-then-cmd-eq-INIT

@@ -2,7 +2,6 @@ use Rattle.std.proofs.lemmas.Bool.{not_from_false}
 use Rattle.ctaphid.specs.Receiver.{start_known}
 use Rattle.ctaphid.proofs.Tests.{tests}
 use Rattle.receive.proofs.Receiving.{turns, start-unknown}
-use Rattle.std.proofs.Common.{rules}
 use Rattle.receive.proofs.assembler.parse_init_packet.Goals as goal
 
 pub returns-then-not-knows : goal.returns-then-not-knows

@@ -1,6 +1,5 @@
 use Rattle.ctaphid.proofs.Tests.{tests}
-use Rattle.receive.proofs.Receiving.{turns, adds-of}
-use Rattle.std.proofs.Common.{rules}
+use Rattle.receive.proofs.Receiving.{turns}
 use Rattle.receive.proofs.assembler.receive.Goals as goal
 
 pub returns-then-assembler-eq0 : goal.returns-then-assembler-eq0

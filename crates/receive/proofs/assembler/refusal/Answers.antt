@@ -1,5 +1,4 @@
 use Rattle.receive.proofs.Receiving.{refusal}
-use Rattle.std.proofs.Common.{rules}
 use Rattle.receive.proofs.assembler.refusal.Goals as goal
 
 pub returns-then-message-max : goal.returns-then-message-max

@@ -1,5 +1,4 @@
 use Rattle.receive.proofs.Receiving.{turns}
-use Rattle.std.proofs.Common.{rules}
 use Rattle.receive.proofs.assembler.when_busy.Goals as goal
 
 pub returns-then-channel-assembler : goal.returns-then-channel-assembler

@@ -1,6 +1,5 @@
 use Rattle.ctaphid.proofs.Tests.{tests}
 use Rattle.receive.proofs.Receiving.{turns}
-use Rattle.std.proofs.Common.{rules}
 use Rattle.receive.proofs.assembler.when_idle.Goals as goal
 
 pub returns-in-InitPacket : goal.returns-in-InitPacket
