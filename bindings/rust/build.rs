@@ -1,13 +1,12 @@
-//! Tells the linker where the archives are: in the folder that SNJOFRASK_LIB names, or where `rt staticlib`, for x86-64, or
-//! `firmware/build`, for another processor, writes them.
+//! Tells the linker where the archives are: in the folder that SNJOFRASK_LIB names, or where `firmware/build` writes them.
 use std::env;
 use std::path::PathBuf;
 use std::process::exit;
 
-/// Where an archive for a processor is written below the repository's target, and by what.
-fn written(library: &str, processor: &str) -> Option<(String, String)> {
+/// Where the archives for a processor are written below the repository's target, and by what.
+fn written(processor: &str) -> Option<(String, String)> {
     let name = match processor {
-        "x86_64" => return Some(("staticlib".into(), format!("rt staticlib {library}"))),
+        "x86_64" => return Some(("staticlib".into(), "firmware/build x86_64".into())),
         "thumbv7em" => "thumbv7em-none-eabi",
         "thumbv8m.main" => "thumbv8m.main-none-eabi",
         "riscv32imac" => "riscv32imac",
@@ -19,7 +18,7 @@ fn written(library: &str, processor: &str) -> Option<(String, String)> {
 
 fn find(library: &str) {
     let target = env::var("TARGET").unwrap();
-    let Some((written, command)) = written(library, target.split('-').next().unwrap()) else {
+    let Some((written, command)) = written(target.split('-').next().unwrap()) else {
         eprintln!("there is no lib{library}.a for {target}");
         exit(1);
     };

@@ -44,11 +44,10 @@
 //! # Ok::<(), snjofrask::Refusal>(())
 //! ```
 //!
-//! In the repository `rt staticlib snjofrask` writes the archive for x86-64, and `firmware/build TARGET` those for
-//! Cortex-M4, Cortex-M33, RISC-V of 32 bits and AArch64; the environment variable `SNJOFRASK_LIB` names its folder if it is
-//! elsewhere. The feature `vendor_hid` needs a second archive in the same folder: `rt staticlib snjofrask_key` writes it for
-//! x86-64, and `firmware/build` writes both. On x86-64 they use the 128 bytes below the stack pointer, so an interrupt handler
-//! on the same stack has to skip them.
+//! In the repository `firmware/build TARGET` writes the archive for x86-64 (as `x86_64`), Cortex-M4, Cortex-M33, RISC-V of 32
+//! bits and AArch64; the environment variable `SNJOFRASK_LIB` names its folder if it is elsewhere. The feature `vendor_hid`
+//! needs a second archive in the same folder: `firmware/build` writes both. On x86-64 they use the 128 bytes below the stack
+//! pointer, so an interrupt handler on the same stack has to skip them.
 #![no_std]
 #![deny(missing_docs, unsafe_code)]
 
