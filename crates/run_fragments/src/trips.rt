@@ -1,24 +1,24 @@
 // Long messages written and read, fragment by fragment.
 use ble::{Answer, BleCommand, Written};
 use host::Collection;
-use libc::STDOUT_FILENO;
-use report::{hex, text};
+use report::{hex, print, text};
 
-pub(crate) fn there_and_back() {
+pub(crate) fn there_and_back(rt: &impl Print) {
     text(
+        rt,
         b"there and back: how many fragments, how often number 0 came again, the last one, and what was read\n",
     );
     let mut payload = [0u8; 65535];
     count_up(&mut payload);
-    send(20, &payload);
-    send(21, &payload);
-    send(511, &payload);
-    send(512, &payload);
-    send(512, front(&payload, 509));
-    send(512, front(&payload, 510));
-    send(20, front(&payload, 17));
-    send(20, front(&payload, 18));
-    send(20, front(&payload, 0));
+    send(rt, 20, &payload);
+    send(rt, 21, &payload);
+    send(rt, 511, &payload);
+    send(rt, 512, &payload);
+    send(rt, 512, front(&payload, 509));
+    send(rt, 512, front(&payload, 510));
+    send(rt, 20, front(&payload, 17));
+    send(rt, 20, front(&payload, 18));
+    send(rt, 20, front(&payload, 0));
 }
 
 fn count_up(payload: &mut [u8]) {
@@ -28,15 +28,15 @@ fn count_up(payload: &mut [u8]) {
 }
 
 // In a buffer that is exactly as long as the message.
-fn send(size: usize, payload: &[u8]) {
+fn send(rt: &impl Print, size: usize, payload: &[u8]) {
     let mut all = [0u8; 65535];
     if payload.len() > 65535 {
         return;
     }
-    trip(size, payload, &mut all[..payload.len()]);
+    trip(rt, size, payload, &mut all[..payload.len()]);
 }
 
-fn trip(size: usize, payload: &[u8], buffer: &mut [u8]) {
+fn trip(rt: &impl Print, size: usize, payload: &[u8], buffer: &mut [u8]) {
     let mut room = [0u8; 512];
     let mut collection = Collection::new();
     let mut again = 0;
@@ -55,8 +55,8 @@ fn trip(size: usize, payload: &[u8], buffer: &mut [u8]) {
         collection = progress.collection;
         let answer = progress.answer;
         again = counted(index, fragment, again);
-        if told(answer, buffer, payload, index + 1, again) {
-            last(fragment);
+        if told(rt, answer, buffer, payload, index + 1, again) {
+            last(rt, fragment);
             return;
         }
     }
@@ -87,26 +87,26 @@ fn counted(index: usize, fragment: &[u8], again: usize) -> usize {
 }
 
 // Whether that was all.
-fn told(answer: Answer, buffer: &[u8], payload: &[u8], count: usize, again: usize) -> bool {
+fn told(
+    rt: &impl Print,
+    answer: Answer,
+    buffer: &[u8],
+    payload: &[u8],
+    count: usize,
+    again: usize,
+) -> bool {
     match answer {
         Answer::Waiting => false,
         Answer::Refused(number) => {
-            text(b"refused ");
-            io::print_decimal(STDOUT_FILENO, number as u64);
+            print(rt, format_args!("refused {number}"));
             true
         }
         Answer::Message { cmd, len } => {
-            io::print_decimal(STDOUT_FILENO, count as u64);
-            text(b", ");
-            io::print_decimal(STDOUT_FILENO, again as u64);
-            text(b", ");
-            io::print_hex(STDOUT_FILENO, cmd as u64, 2);
-            text(b" of ");
-            io::print_decimal(STDOUT_FILENO, len as u64);
-            if check::same(buffer, payload) {
-                text(b" bytes, the same");
+            print(rt, format_args!("{count}, {again}, {cmd:02x} of {len}"));
+            if buffer == payload {
+                text(rt, b" bytes, the same");
             } else {
-                text(b" bytes, others");
+                text(rt, b" bytes, others");
             }
             true
         }
@@ -114,10 +114,8 @@ fn told(answer: Answer, buffer: &[u8], payload: &[u8], count: usize, again: usiz
 }
 
 // Its first two bytes and its length.
-fn last(fragment: &[u8]) {
-    text(b"; ");
-    hex(front(fragment, 2));
-    text(b".. ");
-    io::print_decimal(STDOUT_FILENO, fragment.len() as u64);
-    text(b"\n");
+fn last(rt: &impl Print, fragment: &[u8]) {
+    text(rt, b"; ");
+    hex(rt, front(fragment, 2));
+    print(rt, format_args!(".. {}\n", fragment.len()));
 }

@@ -1,40 +1,39 @@
-// Replies to INIT through the exported entry, and what follows their fields. Then the same after packets: cut by the sender, put together by the host's reader.
+// Replies to INIT through the entry that `snjofrask_c` exports, and what follows their fields. Then the same after packets: cut by the sender, put together by the host's reader.
 #![tactic(auto)]
+
 use host::{Answer, Collection};
-use libc::STDOUT_FILENO;
 use packet::{CtapHidCommand, Limits};
-use report::{hex, text};
+use report::{hex, print, text};
 use send::Written;
 
-fn main() {
+fn main(rt: HostRuntime) {
     let payload = reply();
-    read_all(&payload);
-    send_all(&payload);
+    read_all(&rt, &payload);
+    send_all(&rt, &payload);
 }
 
-fn read_all(payload: &[u8]) {
-    text(b"replies to INIT, by their length\n");
-    show(CtapHidCommand::INIT, front(payload, 16));
-    show(CtapHidCommand::INIT, front(payload, 17));
-    show(CtapHidCommand::INIT, front(payload, 19));
-    show(CtapHidCommand::INIT, front(payload, 7609));
-    show(CtapHidCommand::INIT, payload);
-    text(b"another command\n");
-    show(CtapHidCommand::PING, front(payload, 19));
+fn read_all(rt: &impl Print, payload: &[u8]) {
+    text(rt, b"replies to INIT, by their length\n");
+    show(rt, CtapHidCommand::INIT, front(payload, 16));
+    show(rt, CtapHidCommand::INIT, front(payload, 17));
+    show(rt, CtapHidCommand::INIT, front(payload, 19));
+    show(rt, CtapHidCommand::INIT, front(payload, 7609));
+    show(rt, CtapHidCommand::INIT, payload);
+    text(rt, b"another command\n");
+    show(rt, CtapHidCommand::PING, front(payload, 19));
 }
 
-fn send_all(payload: &[u8]) {
-    text(b"in packets\n");
-    send_reply(front(payload, 19));
-    send_reply(front(payload, 7609));
+fn send_all(rt: &impl Print, payload: &[u8]) {
+    text(rt, b"in packets\n");
+    send_reply(rt, front(payload, 19));
+    send_reply(rt, front(payload, 7609));
 }
 
 // The reply of the bench example with ab and cd behind it, then 07 throughout, but for ee as the last byte of 7,609.
 fn reply() -> [u8; 7610] {
     let mut payload = [7u8; 7610];
-    bytes::copy(
+    payload[..19].copy_from_slice(
         b"\x01\x02\x03\x04\x05\x06\x07\x08\x00\x00\x00\x01\x02\x01\x00\x00\x05\xab\xcd",
-        &mut payload,
     );
     payload[7608] = 0xEE;
     payload
@@ -47,49 +46,46 @@ fn front(payload: &[u8], len: usize) -> &[u8] {
     payload
 }
 
-fn show(cmd: u8, payload: &[u8]) {
-    io::print_decimal(STDOUT_FILENO, payload.len() as u64);
-    text(b" bytes: ");
+fn show(rt: &impl Print, cmd: u8, payload: &[u8]) {
+    print(rt, format_args!("{} bytes: ", payload.len()));
     let told = snjofrask::snjofrask_init_reply(cmd, payload);
     if told.refusal == 0 {
         let nonce = told.nonce;
-        text(b"nonce ");
-        hex(&nonce);
-        text(b", channel ");
-        io::print_hex(STDOUT_FILENO, told.cid as u64, 8);
-        text(b", then ");
-        hex(&[
-            told.protocol,
-            told.major,
-            told.minor,
-            told.build,
-            told.capabilities,
-        ]);
+        text(rt, b"nonce ");
+        hex(rt, &nonce);
+        print(rt, format_args!(", channel {:08x}, then ", told.cid));
+        hex(
+            rt,
+            &[
+                told.protocol,
+                told.major,
+                told.minor,
+                told.build,
+                told.capabilities,
+            ],
+        );
     } else {
-        text(b"refused ");
-        io::print_decimal(STDOUT_FILENO, told.refusal as u64);
+        print(rt, format_args!("refused {}", told.refusal));
     }
-    text(b"; ");
-    io::print_decimal(STDOUT_FILENO, told.rest as u64);
-    text(b" bytes follow");
-    show_rest(host::init_rest(cmd, payload));
-    text(b"\n");
+    print(rt, format_args!("; {} bytes follow", told.rest));
+    show_rest(rt, host::init_rest(cmd, payload));
+    text(rt, b"\n");
 }
 
 // All of what follows, or of much its ends.
-fn show_rest(rest: &[u8]) {
+fn show_rest(rt: &impl Print, rest: &[u8]) {
     if rest.len() == 0 {
         return;
     }
-    text(b": ");
-    hex(front(rest, 3));
+    text(rt, b": ");
+    hex(rt, front(rest, 3));
     if rest.len() > 3 {
-        text(b"..");
-        hex(&rest[rest.len() - 1..]);
+        text(rt, b"..");
+        hex(rt, &rest[rest.len() - 1..]);
     }
 }
 
-fn send_reply(payload: &[u8]) {
+fn send_reply(rt: &impl Print, payload: &[u8]) {
     let mut buffer = [0u8; Limits::LARGEST_PAYLOAD];
     let mut packet = [0u8; Limits::PACKET_SIZE];
     let mut collection = Collection::new();
@@ -106,23 +102,21 @@ fn send_reply(payload: &[u8]) {
         let progress = collection.read(BROADCAST, &packet, &mut buffer);
         collection = progress.collection;
         let answer = progress.answer;
-        hear(index, answer, &buffer);
+        hear(rt, index, answer, &buffer);
     }
 }
 
 const BROADCAST: u32 = 0xFFFF_FFFF;
 
-fn hear(index: usize, answer: Answer, buffer: &[u8]) {
+fn hear(rt: &impl Print, index: usize, answer: Answer, buffer: &[u8]) {
     match answer {
         Answer::Waiting => {}
         Answer::Reply { cmd, len } => {
-            text(b"packet ");
-            io::print_decimal(STDOUT_FILENO, index as u64);
-            text(b" makes it whole: ");
-            show(cmd, front(buffer, len));
+            print(rt, format_args!("packet {index} makes it whole: "));
+            show(rt, cmd, front(buffer, len));
         }
-        Answer::Ignored => text(b"ignored\n"),
-        Answer::Keepalive(_) => text(b"keepalive\n"),
-        Answer::Refused(_) => text(b"refused\n"),
+        Answer::Ignored => text(rt, b"ignored\n"),
+        Answer::Keepalive(_) => text(rt, b"keepalive\n"),
+        Answer::Refused(_) => text(rt, b"refused\n"),
     }
 }

@@ -1,33 +1,31 @@
 // What more than one part prints: an answer in short, and the three questions.
 use hid::{Answer, Running};
 use key::Key;
-use libc::STDOUT_FILENO;
-use report::text;
+use report::{print, text};
 
-pub(crate) fn show(answer: Answer) {
+pub(crate) fn show(rt: &impl Print, answer: Answer) {
     if let Answer::Refused(number) = answer {
-        refused(number);
+        refused(rt, number);
     } else {
-        text(b" taken");
+        text(rt, b" taken");
     }
 }
 
-pub(crate) fn refused(number: u8) {
-    text(b" refused ");
-    io::print_decimal(STDOUT_FILENO, number as u64);
+pub(crate) fn refused(rt: &impl Print, number: u8) {
+    print(rt, format_args!(" refused {number}"));
 }
 
 // Main's lock, vendor's, and the wink.
-pub(crate) fn running(key: Key, time: u64) {
-    say(key.is_main_locked_at(time));
-    say(key.is_vendor_locked_at(time));
-    say(key.is_winking_at(time));
+pub(crate) fn running(rt: &impl Print, key: Key, time: u64) {
+    say(rt, key.is_main_locked_at(time));
+    say(rt, key.is_vendor_locked_at(time));
+    say(rt, key.is_winking_at(time));
 }
 
-fn say(running: Running) {
+fn say(rt: &impl Print, running: Running) {
     match running {
-        Running::Yes => text(b" yes"),
-        Running::No => text(b" no"),
-        Running::Refused(number) => refused(number),
+        Running::Yes => text(rt, b" yes"),
+        Running::No => text(rt, b" no"),
+        Running::Refused(number) => refused(rt, number),
     }
 }

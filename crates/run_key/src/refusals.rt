@@ -5,36 +5,36 @@ use crate::stepping::{Side, step};
 use key::Key;
 use report::text;
 
-pub(crate) fn all() {
+pub(crate) fn all(rt: &impl Print) {
     let mut hid = own();
     hid.still_due = 1;
-    faulty(b"main isn't sound", key_of(hid, own()));
-    faulty(b"vendor isn't sound", key_of(own(), hid));
-    faulty(b"two locks run", locked_until(LAST + 1, LAST + 1));
-    buffers();
+    faulty(rt, b"main isn't sound", key_of(hid, own()));
+    faulty(rt, b"vendor isn't sound", key_of(own(), hid));
+    faulty(rt, b"two locks run", locked_until(LAST + 1, LAST + 1));
+    buffers(rt);
     hid = own();
     hid.max = 7610;
-    too_large(b"main has a maximum of 7,610", key_of(hid, own()));
-    too_large(b"vendor has a maximum of 7,610", key_of(own(), hid));
+    too_large(rt, b"main has a maximum of 7,610", key_of(hid, own()));
+    too_large(rt, b"vendor has a maximum of 7,610", key_of(own(), hid));
 }
 
-fn faulty(name: &[u8], unsound: Key) {
-    text(name);
-    text(b", all four faults, main:");
-    repairs(Side::Main, unsound);
-    text(name);
-    text(b", all four faults, vendor:");
-    repairs(Side::Vendor, unsound);
-    text(name);
-    text(b", both faults, asked:");
-    running(unsound, LAST - 1);
-    text(b";");
-    running(key_of(own(), own()), LAST - 1);
-    text(b"\n");
+fn faulty(rt: &impl Print, name: &[u8], unsound: Key) {
+    text(rt, name);
+    text(rt, b", all four faults, main:");
+    repairs(rt, Side::Main, unsound);
+    text(rt, name);
+    text(rt, b", all four faults, vendor:");
+    repairs(rt, Side::Vendor, unsound);
+    text(rt, name);
+    text(rt, b", both faults, asked:");
+    running(rt, unsound, LAST - 1);
+    text(rt, b";");
+    running(rt, key_of(own(), own()), LAST - 1);
+    text(rt, b"\n");
 }
 
 // One fault after the other is repaired: the packet, the message buffer, the reply buffer, the state, the time.
-fn repairs(side: Side, unsound: Key) {
+fn repairs(rt: &impl Print, side: Side, unsound: Key) {
     let sound = key_of(own(), own());
     let early = LAST - 1;
     let mut message = [0u8; 200];
@@ -43,53 +43,73 @@ fn repairs(side: Side, unsound: Key) {
     let mut short = [0u8; 16];
     let cut = [0u8; 63];
     let whole = [0u8; 64];
-    answered(side, unsound, early, &cut, &mut few, &mut short);
-    answered(side, unsound, early, &whole, &mut few, &mut short);
-    answered(side, unsound, early, &whole, &mut message, &mut short);
-    answered(side, unsound, early, &whole, &mut message, &mut reply);
-    answered(side, sound, early, &whole, &mut message, &mut reply);
-    answered(side, sound, LAST, &whole, &mut message, &mut reply);
-    text(b"\n");
+    answered(rt, side, unsound, early, &cut, &mut few, &mut short);
+    answered(rt, side, unsound, early, &whole, &mut few, &mut short);
+    answered(rt, side, unsound, early, &whole, &mut message, &mut short);
+    answered(rt, side, unsound, early, &whole, &mut message, &mut reply);
+    answered(rt, side, sound, early, &whole, &mut message, &mut reply);
+    answered(rt, side, sound, LAST, &whole, &mut message, &mut reply);
+    text(rt, b"\n");
 }
 
 // The other interface's maximum is 300.
-fn buffers() {
+fn buffers(rt: &impl Print) {
     let small_main = key_with(Side::Main, own());
     let small_vendor = key_with(Side::Vendor, own());
-    text(b"message buffers of 199, 200, 299, 300; a maximum of 200 on main, main:");
-    lent(Side::Main, small_main);
-    text(b"message buffers of 199, 200, 299, 300; a maximum of 200 on main, vendor:");
-    lent(Side::Vendor, small_main);
-    text(b"message buffers of 199, 200, 299, 300; a maximum of 200 on vendor, main:");
-    lent(Side::Main, small_vendor);
-    text(b"message buffers of 199, 200, 299, 300; a maximum of 200 on vendor, vendor:");
-    lent(Side::Vendor, small_vendor);
+    text(
+        rt,
+        b"message buffers of 199, 200, 299, 300; a maximum of 200 on main, main:",
+    );
+    lent(rt, Side::Main, small_main);
+    text(
+        rt,
+        b"message buffers of 199, 200, 299, 300; a maximum of 200 on main, vendor:",
+    );
+    lent(rt, Side::Vendor, small_main);
+    text(
+        rt,
+        b"message buffers of 199, 200, 299, 300; a maximum of 200 on vendor, main:",
+    );
+    lent(rt, Side::Main, small_vendor);
+    text(
+        rt,
+        b"message buffers of 199, 200, 299, 300; a maximum of 200 on vendor, vendor:",
+    );
+    lent(rt, Side::Vendor, small_vendor);
 }
 
-fn lent(side: Side, key: Key) {
-    given(side, key, &mut [0u8; 199]);
-    given(side, key, &mut [0u8; 200]);
-    given(side, key, &mut [0u8; 299]);
-    given(side, key, &mut [0u8; 300]);
-    text(b"\n");
+fn lent(rt: &impl Print, side: Side, key: Key) {
+    given(rt, side, key, &mut [0u8; 199]);
+    given(rt, side, key, &mut [0u8; 200]);
+    given(rt, side, key, &mut [0u8; 299]);
+    given(rt, side, key, &mut [0u8; 300]);
+    text(rt, b"\n");
 }
 
 // A buffer that is too short for the other interface leaves refusal 3.
-fn too_large(name: &[u8], key: Key) {
-    text(name);
-    text(b", message buffers of 7,609:");
-    given(Side::Main, key, &mut [0u8; 7609]);
-    given(Side::Vendor, key, &mut [0u8; 7609]);
-    text(b"\n");
+fn too_large(rt: &impl Print, name: &[u8], key: Key) {
+    text(rt, name);
+    text(rt, b", message buffers of 7,609:");
+    given(rt, Side::Main, key, &mut [0u8; 7609]);
+    given(rt, Side::Vendor, key, &mut [0u8; 7609]);
+    text(rt, b"\n");
 }
 
-fn given(side: Side, key: Key, message: &mut [u8]) {
+fn given(rt: &impl Print, side: Side, key: Key, message: &mut [u8]) {
     let mut reply = [0u8; 17];
-    answered(side, key, LAST, &[0u8; 64], message, &mut reply);
+    answered(rt, side, key, LAST, &[0u8; 64], message, &mut reply);
 }
 
-fn answered(side: Side, key: Key, time: u64, packet: &[u8], message: &mut [u8], reply: &mut [u8]) {
+fn answered(
+    rt: &impl Print,
+    side: Side,
+    key: Key,
+    time: u64,
+    packet: &[u8],
+    message: &mut [u8],
+    reply: &mut [u8],
+) {
     let stepped = step(side, key, time, packet, message, reply);
     let answer = stepped.answer;
-    show(answer);
+    show(rt, answer);
 }

@@ -2,13 +2,13 @@
 use hid::{Answer, CtapHid, MainHid, MessageAssembler};
 use key::{Key, VendorHid};
 
-#[derive(Drop)]
+#[derive(Clone, Copy)]
 pub(crate) enum Side {
     Main,
     Vendor,
 }
 
-#[derive(Drop)]
+#[derive(Clone, Copy)]
 pub(crate) struct KeyStepped {
     pub(crate) key: Key,
     pub(crate) answer: Answer,

@@ -1,21 +1,23 @@
 // Cuts messages into packets and writes each packet in hex. The stored output is OpenSK's own: oracle/sender-vectors.
 #![tactic(auto)]
-use libc::STDOUT_FILENO;
+
+ghost use Rattle.std.specs.Prelude.{◌≤◌, length};
+
 use packet::{CtapHidCommand, Limits, Refusal};
-use report::{hex, text};
+use report::{hex, print, text};
 use send::Written;
 
-fn main() {
+fn main(rt: HostRuntime) {
     let mut payload = [0u8; 7610];
     count_up(&mut payload);
-    send_message(&payload[..0]);
-    send_message(&payload[..1]);
-    send_message(&payload[..57]);
-    send_message(&payload[..58]);
-    send_message(&payload[..116]);
-    send_message(&payload[..117]);
-    send_message(&payload[..7609]);
-    send_message(&payload);
+    send_front(&rt, &payload, 0);
+    send_front(&rt, &payload, 1);
+    send_front(&rt, &payload, 57);
+    send_front(&rt, &payload, 58);
+    send_front(&rt, &payload, 116);
+    send_front(&rt, &payload, 117);
+    send_front(&rt, &payload, 7609);
+    send_message(&rt, &payload);
 }
 
 fn count_up(payload: &mut [u8]) {
@@ -24,16 +26,22 @@ fn count_up(payload: &mut [u8]) {
     }
 }
 
-fn send_message(payload: &[u8]) {
-    io::print_decimal(STDOUT_FILENO, payload.len() as u64);
+fn send_front(rt: &impl Print, payload: &[u8], len: usize)
+    requires { len ≤ length payload.now }
+{
+    send_message(rt, &payload[..len]);
+}
+
+fn send_message(rt: &impl Print, payload: &[u8]) {
+    print(rt, payload.len());
     if payload.len() > Limits::LARGEST_PAYLOAD {
-        text(b" bytes, split_message\n");
+        text(rt, b" bytes, split_message\n");
     } else {
-        text(b" bytes\n");
+        text(rt, b" bytes\n");
     }
     let mut packet = [0u8; Limits::PACKET_SIZE];
     for index in 0..130 {
-        if show(packet_at(payload, index, &mut packet), &packet) {
+        if show(rt, packet_at(payload, index, &mut packet), &packet) {
             return;
         }
     }
@@ -55,18 +63,18 @@ fn packet_at(payload: &[u8], index: usize, packet: &mut [u8]) -> Written {
 }
 
 // Whether the packets are at their end.
-fn show(wrote: Written, packet: &[u8]) -> bool {
+fn show(rt: &impl Print, wrote: Written, packet: &[u8]) -> bool {
     match wrote {
         Written::Packet => {
-            hex(packet);
-            text(b"\n");
+            hex(rt, packet);
+            text(rt, b"\n");
             false
         }
         Written::Refused(number) => {
             if number == Refusal::INDEX {
-                text(b"none left\n");
+                text(rt, b"none left\n");
             } else {
-                text(b"refused\n");
+                text(rt, b"refused\n");
             }
             true
         }

@@ -2,13 +2,13 @@
 // A line has the step's answer, the question's, and whether the state and both buffers are as they came: of the transport, then of
 // the device. The packet always writes to a buffer, so a step that is taken alters something.
 #![tactic(auto)]
+
 use hid::{Answer, CtapHid, MainHid, MainReady, MainStepped, MessageAssembler, Ready, Running};
-use libc::STDOUT_FILENO;
 use packet::Limits;
-use report::{hex, text};
+use report::{hex, print, text};
 
 // What is tried: a transport, or a device.
-#[derive(Drop)]
+#[derive(Clone, Copy)]
 enum Layer {
     Transport,
     Device,
@@ -18,23 +18,23 @@ const LAST: u64 = 1000;
 
 const TWO_TO_48: u64 = 0x1_0000_0000_0000;
 
-fn main() {
-    limits();
-    deadlines();
-    holders();
-    messages();
-    dues();
-    channels();
-    times();
-    order();
-    main_order();
-    set_up(7609, b"");
-    set_up(7610, b"");
-    set_up(7609, b"\x7f\x40\x7f");
-    set_up(7609, b"\x3f");
-    set_up(7609, b"\x80");
-    set_up(7609, b"\x40\x00\x7f");
-    set_up(7610, b"\x3f");
+fn main(rt: HostRuntime) {
+    limits(&rt);
+    deadlines(&rt);
+    holders(&rt);
+    messages(&rt);
+    dues(&rt);
+    channels(&rt);
+    times(&rt);
+    order(&rt);
+    main_order(&rt);
+    set_up(&rt, 7609, b"");
+    set_up(&rt, 7610, b"");
+    set_up(&rt, 7609, b"\x7f\x40\x7f");
+    set_up(&rt, 7609, b"\x3f");
+    set_up(&rt, 7609, b"\x80");
+    set_up(&rt, 7609, b"\x40\x00\x7f");
+    set_up(&rt, 7610, b"\x3f");
 }
 
 // Two channels, and no transaction or lock.
@@ -72,45 +72,46 @@ fn transaction() -> MessageAssembler {
     }
 }
 
-fn limits() {
+fn limits(rt: &impl Print) {
     let mut hid = base();
     let mut message = [0u8; 7610];
     hid.max = 7609;
-    trial_with(b"maximum 7,609", hid, 0, LAST, &mut message);
+    trial_with(rt, b"maximum 7,609", hid, 0, LAST, &mut message);
     hid.max = 7610;
-    trial_with(b"maximum 7,610", hid, 0, LAST, &mut message);
+    trial_with(rt, b"maximum 7,610", hid, 0, LAST, &mut message);
     hid = base();
     hid.allocated = 0xFFFF_FFFE;
-    trial(b"count FFFFFFFE", hid);
+    trial(rt, b"count FFFFFFFE", hid);
     hid.allocated = 0xFFFF_FFFF;
-    trial(b"count FFFFFFFF", hid);
+    trial(rt, b"count FFFFFFFF", hid);
     hid = base();
     hid.last = TWO_TO_48 - 1;
-    trial(b"last time 2^48 - 1", hid);
+    trial(rt, b"last time 2^48 - 1", hid);
     hid.last = TWO_TO_48;
-    trial(b"last time 2^48", hid);
+    trial(rt, b"last time 2^48", hid);
     hid = base();
     hid.vendor = 0xFFFF_FFFF_FFFF_FFFF;
-    trial(b"all vendor commands", hid);
+    trial(rt, b"all vendor commands", hid);
     hid = base();
     hid.spare = 0xFF;
-    trial(b"any spare number", hid);
+    trial(rt, b"any spare number", hid);
 }
 
-fn deadlines() {
+fn deadlines(rt: &impl Print) {
     let mut assembler = transaction();
     assembler.deadline = LAST + 100;
-    trial_of(b"transaction deadline 100 past", assembler, 3);
+    trial_of(rt, b"transaction deadline 100 past", assembler, 3);
     assembler.deadline = LAST + 101;
-    trial_of(b"transaction deadline 101 past", assembler, 3);
+    trial_of(rt, b"transaction deadline 101 past", assembler, 3);
     let mut hid = base();
     hid.locked = 1;
     hid.lock = LAST + 10000;
-    trial(b"lock deadline 10,000 past", hid);
+    trial(rt, b"lock deadline 10,000 past", hid);
     hid.lock = LAST + 10001;
-    trial(b"lock deadline 10,001 past", hid);
+    trial(rt, b"lock deadline 10,001 past", hid);
     let mut message = [0u8; 200];
     trial_with(
+        rt,
         b"wink deadline 5,000 past",
         base(),
         LAST + 5000,
@@ -118,6 +119,7 @@ fn deadlines() {
         &mut message,
     );
     trial_with(
+        rt,
         b"wink deadline 5,001 past",
         base(),
         LAST + 5001,
@@ -126,121 +128,121 @@ fn deadlines() {
     );
 }
 
-fn holders() {
+fn holders(rt: &impl Print) {
     let mut hid = base();
     hid.lock = LAST + 1;
     hid.locked = 2;
-    trial(b"lock running, held by 2 of 2", hid);
+    trial(rt, b"lock running, held by 2 of 2", hid);
     hid.locked = 3;
-    trial(b"lock running, held by 3 of 2", hid);
+    trial(rt, b"lock running, held by 3 of 2", hid);
     hid.locked = 1;
-    trial(b"lock running, held by 1", hid);
+    trial(rt, b"lock running, held by 1", hid);
     hid.locked = 0;
-    trial(b"lock running, held by 0", hid);
+    trial(rt, b"lock running, held by 0", hid);
     hid.lock = LAST;
-    trial(b"lock over, held by 0", hid);
+    trial(rt, b"lock over, held by 0", hid);
     hid.locked = 3;
-    trial(b"lock over, held by 3 of 2", hid);
+    trial(rt, b"lock over, held by 3 of 2", hid);
 }
 
-fn messages() {
+fn messages(rt: &impl Print) {
     let mut assembler = transaction();
     assembler.cmd = 127;
-    trial_of(b"command 127", assembler, 3);
+    trial_of(rt, b"command 127", assembler, 3);
     assembler.cmd = 128;
-    trial_of(b"command 128", assembler, 3);
+    trial_of(rt, b"command 128", assembler, 3);
     assembler = transaction();
     assembler.len = 58;
-    trial_of(b"declared length 58", assembler, 1);
+    trial_of(rt, b"declared length 58", assembler, 1);
     assembler.len = 57;
-    trial_of(b"declared length 57", assembler, 0);
+    trial_of(rt, b"declared length 57", assembler, 0);
     assembler.len = 200;
-    trial_of(b"declared length 200 of 200", assembler, 3);
+    trial_of(rt, b"declared length 200 of 200", assembler, 3);
     assembler.len = 201;
-    trial_of(b"declared length 201 of 200", assembler, 3);
+    trial_of(rt, b"declared length 201 of 200", assembler, 3);
     assembler.seq = 1;
     assembler.taken = 116;
     assembler.len = 117;
-    trial_of(b"number 1, 116 taken of 117", assembler, 1);
+    trial_of(rt, b"number 1, 116 taken of 117", assembler, 1);
     assembler.len = 116;
-    trial_of(b"number 1, 116 taken of 116", assembler, 0);
+    trial_of(rt, b"number 1, 116 taken of 116", assembler, 0);
     assembler.len = 200;
-    trial_of(b"number 1, 116 taken", assembler, 2);
+    trial_of(rt, b"number 1, 116 taken", assembler, 2);
     assembler.taken = 115;
-    trial_of(b"number 1, 115 taken", assembler, 2);
+    trial_of(rt, b"number 1, 115 taken", assembler, 2);
     assembler.taken = 117;
-    trial_of(b"number 1, 117 taken", assembler, 2);
+    trial_of(rt, b"number 1, 117 taken", assembler, 2);
 }
 
 // 200 bytes are declared: 57 come first, and 59, 59 and 25 follow.
-fn dues() {
+fn dues(rt: &impl Print) {
     let mut assembler = transaction();
-    trial_of(b"57 taken of 200, 3 due", assembler, 3);
-    trial_of(b"57 taken of 200, 4 due", assembler, 4);
-    trial_of(b"57 taken of 200, 2 due", assembler, 2);
-    trial_of(b"57 taken of 200, none due", assembler, 0);
+    trial_of(rt, b"57 taken of 200, 3 due", assembler, 3);
+    trial_of(rt, b"57 taken of 200, 4 due", assembler, 4);
+    trial_of(rt, b"57 taken of 200, 2 due", assembler, 2);
+    trial_of(rt, b"57 taken of 200, none due", assembler, 0);
     assembler.seq = 2;
     assembler.taken = 175;
-    trial_of(b"175 taken of 200, 1 due", assembler, 1);
-    trial_of(b"175 taken of 200, 2 due", assembler, 2);
-    trial_of(b"175 taken of 200, none due", assembler, 0);
+    trial_of(rt, b"175 taken of 200, 1 due", assembler, 1);
+    trial_of(rt, b"175 taken of 200, 2 due", assembler, 2);
+    trial_of(rt, b"175 taken of 200, none due", assembler, 0);
     assembler.deadline = LAST;
-    trial_of(b"time over, 1 due", assembler, 1);
-    trial_of(b"time over, 2 due", assembler, 2);
-    trial_of(b"time over, none due", assembler, 0);
+    trial_of(rt, b"time over, 1 due", assembler, 1);
+    trial_of(rt, b"time over, 2 due", assembler, 2);
+    trial_of(rt, b"time over, none due", assembler, 0);
     let mut hid = base();
     hid.still_due = 1;
-    trial(b"no transaction, 1 due", hid);
+    trial(rt, b"no transaction, 1 due", hid);
     hid.still_due = 0xFFFF;
-    trial(b"no transaction, 65,535 due", hid);
+    trial(rt, b"no transaction, 65,535 due", hid);
 }
 
-fn channels() {
+fn channels(rt: &impl Print) {
     let mut assembler = transaction();
     assembler.cid = 2;
-    trial_of(b"transaction on 2 of 2", assembler, 3);
+    trial_of(rt, b"transaction on 2 of 2", assembler, 3);
     assembler.cid = 3;
-    trial_of(b"transaction on 3 of 2", assembler, 3);
+    trial_of(rt, b"transaction on 3 of 2", assembler, 3);
     assembler.cid = 1;
-    trial_of(b"transaction on 1", assembler, 3);
+    trial_of(rt, b"transaction on 1", assembler, 3);
     assembler.cid = 0;
-    trial_of(b"transaction on 0", assembler, 3);
+    trial_of(rt, b"transaction on 0", assembler, 3);
     assembler.cid = 0xFFFF_FFFF;
     assembler.cmd = 6;
-    trial_of(b"INIT on FFFFFFFF", assembler, 3);
+    trial_of(rt, b"INIT on FFFFFFFF", assembler, 3);
     assembler.cmd = 1;
-    trial_of(b"PING on FFFFFFFF", assembler, 3);
+    trial_of(rt, b"PING on FFFFFFFF", assembler, 3);
     assembler.cmd = 127;
-    trial_of(b"command 127 on FFFFFFFF", assembler, 3);
+    trial_of(rt, b"command 127 on FFFFFFFF", assembler, 3);
     assembler.cid = 3;
     assembler.cmd = 6;
-    trial_of(b"INIT on 3 of 2", assembler, 3);
+    trial_of(rt, b"INIT on 3 of 2", assembler, 3);
 }
 
-fn times() {
-    trial_at(b"time as the last", base(), LAST);
-    trial_at(b"time one before the last", base(), LAST - 1);
-    trial_at(b"time 2^48 - 1", base(), TWO_TO_48 - 1);
-    trial_at(b"time 2^48", base(), TWO_TO_48);
+fn times(rt: &impl Print) {
+    trial_at(rt, b"time as the last", base(), LAST);
+    trial_at(rt, b"time one before the last", base(), LAST - 1);
+    trial_at(rt, b"time 2^48 - 1", base(), TWO_TO_48 - 1);
+    trial_at(rt, b"time 2^48", base(), TWO_TO_48);
 }
 
-fn order() {
+fn order(rt: &impl Print) {
     let mut hid = base();
     hid.lock = LAST + 10001;
     let unsound = MainHid { hid, wink: LAST };
-    repairs(b"all four faults:", Layer::Transport, unsound);
+    repairs(rt, b"all four faults:", Layer::Transport, unsound);
 }
 
-fn main_order() {
+fn main_order(rt: &impl Print) {
     let unsound = MainHid {
         hid: base(),
         wink: LAST + 5001,
     };
-    repairs(b"all four faults, the device:", Layer::Device, unsound);
+    repairs(rt, b"all four faults, the device:", Layer::Device, unsound);
 }
 
 // One fault after the other is repaired: the packet, the message buffer, the reply buffer, the state, the time.
-fn repairs(name: &[u8], layer: Layer, unsound: MainHid) {
+fn repairs(rt: &impl Print, name: &[u8], layer: Layer, unsound: MainHid) {
     let sound = MainHid {
         hid: base(),
         wink: LAST,
@@ -252,17 +254,18 @@ fn repairs(name: &[u8], layer: Layer, unsound: MainHid) {
     let mut short = [0u8; 16];
     let cut = [0u8; 63];
     let whole = [0u8; 64];
-    text(name);
-    answered(layer, unsound, early, &cut, &mut few, &mut short);
-    answered(layer, unsound, early, &whole, &mut few, &mut short);
-    answered(layer, unsound, early, &whole, &mut message, &mut short);
-    answered(layer, unsound, early, &whole, &mut message, &mut reply);
-    answered(layer, sound, early, &whole, &mut message, &mut reply);
-    answered(layer, sound, LAST, &whole, &mut message, &mut reply);
-    text(b"\n");
+    text(rt, name);
+    answered(rt, layer, unsound, early, &cut, &mut few, &mut short);
+    answered(rt, layer, unsound, early, &whole, &mut few, &mut short);
+    answered(rt, layer, unsound, early, &whole, &mut message, &mut short);
+    answered(rt, layer, unsound, early, &whole, &mut message, &mut reply);
+    answered(rt, layer, sound, early, &whole, &mut message, &mut reply);
+    answered(rt, layer, sound, LAST, &whole, &mut message, &mut reply);
+    text(rt, b"\n");
 }
 
 fn answered(
+    rt: &impl Print,
     layer: Layer,
     main: MainHid,
     time: u64,
@@ -272,66 +275,78 @@ fn answered(
 ) {
     let stepped = step(layer, main, time, packet, message, reply);
     let answer = stepped.answer;
-    show(answer);
+    show(rt, answer);
 }
 
-fn set_up(max: usize, vendor: &[u8]) {
-    text(b"set-up with ");
-    io::print_decimal(STDOUT_FILENO, max as u64);
-    text(b" and vendor commands \"");
-    hex(vendor);
-    text(b"\":");
+fn set_up(rt: &impl Print, max: usize, vendor: &[u8]) {
+    print(rt, format_args!("set-up with {max} and vendor commands \""));
+    hex(rt, vendor);
+    text(rt, b"\":");
     match CtapHid::new(max, true, vendor) {
-        Ready::Hid(_) => text(b" fresh"),
-        Ready::Refused(number) => refused(number),
+        Ready::Hid(_) => text(rt, b" fresh"),
+        Ready::Refused(number) => refused(rt, number),
     }
     match MainHid::new(max, true, vendor) {
-        MainReady::Hid(_) => text(b" fresh"),
-        MainReady::Refused(number) => refused(number),
+        MainReady::Hid(_) => text(rt, b" fresh"),
+        MainReady::Refused(number) => refused(rt, number),
     }
-    text(b"\n");
+    text(rt, b"\n");
 }
 
 // A transaction, and how many continuations are said to be still due.
-fn trial_of(name: &[u8], assembler: MessageAssembler, due: u16) {
+fn trial_of(rt: &impl Print, name: &[u8], assembler: MessageAssembler, due: u16) {
     let mut hid = base();
     hid.assembler = assembler;
     hid.still_due = due;
-    trial(name, hid);
+    trial(rt, name, hid);
 }
 
-fn trial(name: &[u8], hid: CtapHid) {
-    trial_at(name, hid, hid.last);
+fn trial(rt: &impl Print, name: &[u8], hid: CtapHid) {
+    trial_at(rt, name, hid, hid.last);
 }
 
-fn trial_at(name: &[u8], hid: CtapHid, time: u64) {
+fn trial_at(rt: &impl Print, name: &[u8], hid: CtapHid, time: u64) {
     let mut message = [0u8; 200];
-    trial_with(name, hid, 0, time, &mut message);
+    trial_with(rt, name, hid, 0, time, &mut message);
 }
 
 // The packet is a PING of two bytes on channel 1.
-fn trial_with(name: &[u8], hid: CtapHid, wink: u64, time: u64, message: &mut [u8]) {
+fn trial_with(
+    rt: &impl Print,
+    name: &[u8],
+    hid: CtapHid,
+    wink: u64,
+    time: u64,
+    message: &mut [u8],
+) {
     let mut packet = [0u8; Limits::PACKET_SIZE];
-    bytes::copy(b"\x00\x00\x00\x01\x81\x00\x02\xab\xcd", &mut packet);
+    packet[..9].copy_from_slice(b"\x00\x00\x00\x01\x81\x00\x02\xab\xcd");
     let main = MainHid { hid, wink };
-    text(name);
-    text(b":");
-    tried(Layer::Transport, main, time, &packet, message);
-    text(b";");
-    tried(Layer::Device, main, time, &packet, message);
-    text(b"\n");
+    text(rt, name);
+    text(rt, b":");
+    tried(rt, Layer::Transport, main, time, &packet, message);
+    text(rt, b";");
+    tried(rt, Layer::Device, main, time, &packet, message);
+    text(rt, b"\n");
 }
 
-fn tried(layer: Layer, main: MainHid, time: u64, packet: &[u8], message: &mut [u8]) {
+fn tried(
+    rt: &impl Print,
+    layer: Layer,
+    main: MainHid,
+    time: u64,
+    packet: &[u8],
+    message: &mut [u8],
+) {
     let mut reply = [0u8; Limits::SHORT_REPLY_SIZE];
     fill(message);
     fill(&mut reply);
     let stepped = step(layer, main, time, packet, message, &mut reply);
     let answer = stepped.answer;
-    show(answer);
-    say(asked(layer, main, time));
+    show(rt, answer);
+    say(rt, asked(layer, main, time));
     let state = same_main(main, stepped.hid);
-    as_it_came(state && is_filled(message) && is_filled(&reply));
+    as_it_came(rt, state && is_filled(message) && is_filled(&reply));
 }
 
 // A step of the transport leaves the wink as it is.
@@ -410,31 +425,30 @@ fn same_assembler(a: MessageAssembler, b: MessageAssembler) -> bool {
         && a.seq == b.seq
 }
 
-fn show(answer: Answer) {
+fn show(rt: &impl Print, answer: Answer) {
     if let Answer::Refused(number) = answer {
-        refused(number);
+        refused(rt, number);
     } else {
-        text(b" taken");
+        text(rt, b" taken");
     }
 }
 
-fn say(running: Running) {
+fn say(rt: &impl Print, running: Running) {
     match running {
-        Running::Yes => text(b" yes"),
-        Running::No => text(b" no"),
-        Running::Refused(number) => refused(number),
+        Running::Yes => text(rt, b" yes"),
+        Running::No => text(rt, b" no"),
+        Running::Refused(number) => refused(rt, number),
     }
 }
 
-fn refused(number: u8) {
-    text(b" refused ");
-    io::print_decimal(STDOUT_FILENO, number as u64);
+fn refused(rt: &impl Print, number: u8) {
+    print(rt, format_args!(" refused {number}"));
 }
 
-fn as_it_came(unaltered: bool) {
+fn as_it_came(rt: &impl Print, unaltered: bool) {
     if unaltered {
-        text(b" all as it came");
+        text(rt, b" all as it came");
     } else {
-        text(b" ALTERED");
+        text(rt, b" ALTERED");
     }
 }
