@@ -1,6 +1,6 @@
 // The bench program: a line of input is a packet that comes at a time, and what the device answers is printed. docs/RULES.md, The bench's lines.
 #![tactic(auto)]
 
-fn main() {
-    bench_run::run(false);
+fn main(rt: HostRuntime) {
+    bench_run::run(&rt, false);
 }

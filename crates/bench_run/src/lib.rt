@@ -1,15 +1,16 @@
 // The bench's loop: standard input to its end, line by line, and the device's answers on standard output.
 #![tactic(auto)]
-ghost use Rattle.std.specs.Prelude.{◌≡◌};
+
+ghost use Rattle.std.specs.Prelude.{◌≡◌, ◌≤◌, length};
 
 use bench_input::{Cut, Line};
 use bench_output::{Text, Texts};
 use hid::{MainHid, MainReady};
-use libc::{STDIN_FILENO, STDOUT_FILENO};
 use packet::Limits;
+use std::io::{Input, Read};
 
 // What goes from line to line: the device, how much is kept of a line that has begun, how much of the output is not written yet, and whether to go on.
-#[derive(Drop)]
+#[derive(Clone, Copy)]
 struct Bench {
     hid: MainHid,
     kept: usize,
@@ -18,37 +19,53 @@ struct Bench {
 }
 
 // A device from its set-up: maximum 7,609, U2F in. With set-ups, a line that begins with '=' sets up another one. What is read and written no contract can say.
-pub fn run(setups: bool)
+pub fn run(rt: &(impl Input + Print), setups: bool)
     ensures { result ≡ tt }
 {
     match MainHid::new(Limits::LARGEST_PAYLOAD, true, b"") {
-        MainReady::Hid(hid) => take_input(hid, setups),
+        MainReady::Hid(hid) => take_input(rt, hid, setups),
         // never: there is no larger maximum
         MainReady::Refused(_) => {}
     }
 }
 
+// How much is read at once, and how much is kept before it is written.
+const PIECE: usize = 65536;
+
 // The turns say only that the loop ends.
-fn take_input(hid: MainHid, setups: bool) {
+fn take_input(rt: &(impl Input + Print), hid: MainHid, setups: bool) {
+    let mut reader = rt.reader();
     let mut line = [0u8; 147];
     let mut message = [0u8; Limits::LARGEST_PAYLOAD];
     let mut reply = [0u8; Limits::SHORT_REPLY_SIZE];
-    let mut out = io::large_buffer();
+    let mut out = [0u8; PIECE];
     let mut bench = Bench {
         hid,
         kept: 0,
         filled: 0,
         more: true,
     };
-    let mut turns = u64::MAX;
-    while turns > 0 && bench.more {
-        bench = take_piece(bench, setups, &mut line, &mut message, &mut reply, &mut out);
-        turns -= 1;
+    for _ in 0..u64::MAX {
+        if !bench.more {
+            return;
+        }
+        bench = take_piece(
+            rt,
+            &mut reader,
+            bench,
+            setups,
+            &mut line,
+            &mut message,
+            &mut reply,
+            &mut out,
+        );
     }
 }
 
 // Output is written before the next read, so that whoever waits for an answer before the next line gets it.
 fn take_piece(
+    rt: &impl Print,
+    reader: &mut impl Read,
     bench: Bench,
     setups: bool,
     line: &mut [u8],
@@ -56,17 +73,25 @@ fn take_piece(
     reply: &mut [u8],
     out: &mut [u8],
 ) -> Bench {
-    let mut input = io::large_buffer();
-    let n = io::count(libc::read(STDIN_FILENO, &mut input), &input);
+    let mut input = [0u8; PIECE];
+    let n = read_some(reader, &mut input);
     if n == 0 {
-        return take_last(bench, setups, line, message, reply, out);
+        return take_last(rt, bench, setups, line, message, reply, out);
     }
-    let taken = take_lines(bench, setups, &input[..n], line, message, reply, out);
-    flush(taken, out)
+    let taken = take_lines(rt, bench, setups, &input[..n], line, message, reply, out);
+    flush(rt, taken, out)
+}
+
+// None at the end of the input, and where it can't be read.
+fn read_some(reader: &mut impl Read, input: &mut [u8]) -> usize
+    ensures { result ≤ length input.new }
+{
+    reader.read(input).unwrap_or(0)
 }
 
 // The last line may have no newline.
 fn take_last(
+    rt: &impl Print,
     bench: Bench,
     setups: bool,
     line: &[u8],
@@ -76,14 +101,18 @@ fn take_last(
 ) -> Bench {
     let mut last = bench;
     if bench.kept > 0 {
-        last = flush(take_line(bench, setups, line, message, reply, out), out);
+        last = flush(
+            rt,
+            take_line(rt, bench, setups, line, message, reply, out),
+            out,
+        );
     }
     last.more = false;
     last
 }
 
 // Where in a piece of input the next line begins, and whether there may be one.
-#[derive(Drop)]
+#[derive(Clone, Copy)]
 struct Place {
     bench: Bench,
     at: usize,
@@ -92,6 +121,7 @@ struct Place {
 
 // A piece of input has at most as many lines as bytes.
 fn take_lines(
+    rt: &impl Print,
     bench: Bench,
     setups: bool,
     input: &[u8],
@@ -105,15 +135,17 @@ fn take_lines(
         at: 0,
         more: true,
     };
-    let mut turns = input.len();
-    while turns > 0 && place.more {
-        place = next_line(place, setups, input, line, message, reply, out);
-        turns -= 1;
+    for _ in 0..input.len() {
+        if !place.more {
+            break;
+        }
+        place = next_line(rt, place, setups, input, line, message, reply, out);
     }
     place.bench
 }
 
 fn next_line(
+    rt: &impl Print,
     place: Place,
     setups: bool,
     input: &[u8],
@@ -127,7 +159,7 @@ fn next_line(
     match bench_input::cut_line(line, bench.kept, input, at) {
         Cut::Whole { kept, next } => {
             bench.kept = kept;
-            let answered = take_line(bench, setups, line, message, reply, out);
+            let answered = take_line(rt, bench, setups, line, message, reply, out);
             Place {
                 bench: answered,
                 at: next,
@@ -153,6 +185,7 @@ fn next_line(
 
 // A line that is whole.
 fn take_line(
+    rt: &impl Print,
     bench: Bench,
     setups: bool,
     line: &[u8],
@@ -172,7 +205,7 @@ fn take_line(
             return set_up(next, whole);
         }
     }
-    answer(with_room(next, out), whole, message, reply, out)
+    answer(with_room(rt, next, out), whole, message, reply, out)
 }
 
 fn answer(
@@ -213,25 +246,25 @@ fn filled_by(text: Text, filled: usize, room: usize) -> usize {
 }
 
 // The longest answer fits behind what is there.
-fn with_room(bench: Bench, out: &[u8]) -> Bench {
+fn with_room(rt: &impl Print, bench: Bench, out: &[u8]) -> Bench {
     let filled = bench.filled;
     if filled > out.len() {
-        return flush(bench, out);
+        return flush(rt, bench, out);
     }
     if out.len() - filled < Texts::LONGEST {
-        return flush(bench, out);
+        return flush(rt, bench, out);
     }
     bench
 }
 
-fn flush(bench: Bench, out: &[u8]) -> Bench {
+fn flush(rt: &impl Print, bench: Bench, out: &[u8]) -> Bench {
     let filled = bench.filled;
     let mut next = bench;
     next.filled = 0;
     if filled > out.len() {
         return next;
     }
-    next.more = io::write_all(STDOUT_FILENO, &out[..filled]);
+    next.more = rt.write_all(&out[..filled]).is_ok();
     next
 }
 
