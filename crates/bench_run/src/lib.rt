@@ -82,7 +82,7 @@ fn take_piece(
     flush(rt, taken, out)
 }
 
-// None at the end of the input, and where it can't be read.
+// 0 at the end of the input, and where it can't be read.
 fn read_some(reader: &mut impl Read, input: &mut [u8]) -> usize
     ensures { result ≤ length input.new }
 {
