@@ -3,8 +3,8 @@
  * SPDX-License-Identifier: Apache-2.0
  *
  * Link the libsnjofrask.a of your processor. `firmware/build TARGET` writes it, for x86-64 (System V, as `x86_64`), Cortex-M4,
- * Cortex-M33, RISC-V of 32 bits and AArch64: firmware/README.md. Each allocates
- * nothing and keeps nothing between calls. Those for x86-64 and AArch64 call nothing outside, the others memcpy and its like.
+ * Cortex-M33, RISC-V of 32 bits and AArch64: firmware/README.md. Each allocates nothing and keeps nothing between calls. Those
+ * for x86-64 and AArch64 call nothing outside, the others memcpy and its like.
  * A key with two interfaces links libsnjofrask_key.a besides (at the end of this file), of which all this holds too.
  * examples/firmware is a main loop over it, docs/RULES.md has all rules.
  *
