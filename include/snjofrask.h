@@ -51,8 +51,8 @@
  */
 #if defined(__x86_64__) && !defined(__ILP32__) && !defined(_WIN32) && !defined(__CYGWIN__)
 #define SNJOFRASK_ENTRY __attribute__((sysv_abi))
-#define SNJOFRASK_STACK_SIZE 496
-#define SNJOFRASK_KEY_STACK_SIZE 528
+#define SNJOFRASK_STACK_SIZE 457
+#define SNJOFRASK_KEY_STACK_SIZE 521
 #elif defined(__ARM_EABI__) && defined(__thumb2__) && !defined(__ARM_BIG_ENDIAN) && __ARM_ARCH_PROFILE == 'M' && \
     (__ARM_ARCH >= 8 || defined(__ARM_FEATURE_DSP))
 #define SNJOFRASK_ENTRY __attribute__((pcs("aapcs")))
