@@ -100,7 +100,7 @@ fn put_block(message: &mut [u8], at: usize, data: &[u8])
     copy(&block, &mut message[at..]);
 }
 
-// A loop, because by copy_from_slice a packet takes 310 instructions more on a Cortex-M4, and as many on x86-64.
+// A loop: by copy_from_slice a packet takes 310 instructions more on a Cortex-M4. On x86-64 both take the same.
 fn copy(src: &[u8], dst: &mut [u8])
     requires { length src.now ≤ length dst.old }
     ensures { dst.new ≡ src.now ++ drop (length src.now) dst.old }

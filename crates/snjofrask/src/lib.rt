@@ -1,4 +1,4 @@
-// The static library's entries, for C and Rust. Each is thin over the same by value; flags are numbers, of which 0 is not set.
+// The entries for C and Rust, which snjofrask_c exports. Each is thin over the same by value; flags are numbers, of which 0 is not set.
 #![tactic(auto)]
 
 ghost use Rattle.std.specs.Prelude.{◌≡◌};

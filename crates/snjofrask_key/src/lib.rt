@@ -1,5 +1,5 @@
-// A static library of its own, for a key with two interfaces: entries for C and Rust. Each is thin over the same by value; flags are numbers, of which 0 is not
-// set. Packets, waits and the host's end are the other library's.
+// The entries for a key with two interfaces, for C and Rust, which snjofrask_key_c exports. Each is thin over the same by value; flags are numbers, of which 0 is
+// not set. Packets, waits and the host's end are the other library's.
 #![tactic(auto)]
 
 ghost use Rattle.std.specs.Prelude.{◌≡◌};
