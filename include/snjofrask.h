@@ -86,9 +86,9 @@ extern "C" {
 /* ---- numbers */
 
 /* Of the library: header and archives belong together. */
-#define SNJOFRASK_VERSION "0.11.0"
+#define SNJOFRASK_VERSION "0.12.0"
 #define SNJOFRASK_VERSION_MAJOR 0
-#define SNJOFRASK_VERSION_MINOR 11
+#define SNJOFRASK_VERSION_MINOR 12
 #define SNJOFRASK_VERSION_PATCH 0
 
 /* Limits: bytes and milliseconds. */
