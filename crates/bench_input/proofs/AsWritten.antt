@@ -2,8 +2,9 @@
 use Prim.Native.Nat.{ℕ, suc, ◌+◌, ◌*◌, ◌≤◌}
 use native.Mathlib.Omega.{arith}
 use mathlib.Core.Path.{◌≡◌, refl, sym, ap, subst, ◌∙◌}
-use mathlib.Core.Bool.{Bool, true, false}
+use mathlib.Core.Bool.{Bool, true, false, ◌||◌}
 use mathlib.Core.List.{List, ◌∷◌, ◌++◌}
+use Rattle.std.proofs.Common.{Ok, Err, None}
 use borrow.Author.Tests.{le-leb, leb-true, eq-eqb, ne_eqb, eqb-true}
 use lib.Dec.{leb, eqb}
 use lib.ListN.{length, take, drop, get_or, length-append, take-append-drop}
@@ -13,21 +14,19 @@ use Rattle.ctaphid.specs.Limits.{packet_size}
 use Rattle.ctaphid.proofs.Tests.{pick_true}
 use Rattle.bench_input.specs.Hex.{'0', '1', space, hex_of, bytes_of, is_hex}
 use Rattle.bench_input.specs.Lines.{Input, Decimal, number_of, flag_of, Written, Reading, reads, unread, digits_in, is_flag, is_formed, input_of, line_of, ReadsAsWritten, OneReading, read, read_to, read_into, read_line_of, CallsAsWritten}
-use Rattle.bench_input.specs.declared.Line.TheVariants as line
+use Rattle.packet.specs.declared.refusal.Refusal.TheVariants.{PacketSize}
 use Rattle.bench_input.proofs.ReadBack.{by_bool, picked, passed, length-hex, hex-all, hex-read, read_length, read-bytes, read-hex, HexFacts, hex-is, is-hex}
 use Rattle.bench_input.proofs.Digits.{in-front, before-space}
 
 -- ---- the tests, as facts
 
 flag-of : (c : ℕ) → is_flag c ≡ true → flag_of (eqb c '1') ≡ c
-unfolding is_flag
 flag-of c e =
     by_bool (eqb c '0')
     (λ z. let zero : c ≡ '0' = eqb-true c '0' z in rw (zero) refl)
-    (λ z. let one : eqb c '1' ≡ true = sym (passed _ _ z) ∙ e in rw one (sym (eqb-true c '1' one)))
+    (λ z. let one : eqb c '1' ≡ true = ap (λ (b : Bool). b || eqb c '1') (sym z) ∙ e in rw one (sym (eqb-true c '1' one)))
 
 flag_is : (b : Bool) → is_flag (flag_of b) ≡ true
-unfolding is_flag pick
 flag_is true = refl
 flag_is false = refl
 
@@ -111,7 +110,7 @@ module _ (l : List ℕ) (n : ℕ) where
             sym (take-append-drop n l)
             ∙ ap (λ (t : List ℕ). take n l ++ t)
             (three-more f.long
-            ∙ (λ i. f.before i ∷ (sym (flag-of _ f.flag) i ∷ (f.after i ∷ sym back i))));
+            ∙ (λ i. f.before i ∷ (sym {b = get_or l (n + 1) 0} (flag-of _ f.flag) i ∷ (f.after i ∷ sym back i))));
       }
 
 -- ---- what was written so reads
@@ -209,7 +208,7 @@ one-reading = record {
 -- ---- what a call leaves
 
 module _ (l p : List ℕ) where
-  pub left-refused : (length p ≡ packet_size → ⊥) → read_line_of l p ≡ read (line.Refused 1) p
+  pub left-refused : (length p ≡ packet_size → ⊥) → read_line_of l p ≡ read (Err PacketSize) p
   unfolding read_line_of pick
   left-refused size = simp (ne_eqb (length p) packet_size size)
 
@@ -221,7 +220,7 @@ module _ (l p : List ℕ) where
     pub left-read : is_formed l (digits_in l) ≡ true → read_line_of l p ≡ read_to (input_of l (digits_in l))
     left-read f = left_by (reads (input_of l (digits_in l))) (formed-reads l f)
 
-    pub left-unread : is_formed l (digits_in l) ≡ false → read_line_of l p ≡ read line.Unread p
+    pub left-unread : is_formed l (digits_in l) ≡ false → read_line_of l p ≡ read (Ok None) p
     left-unread f = left_by unread (unformed-reads l f)
 
 pub calls-as-written : CallsAsWritten

@@ -1,12 +1,12 @@
 -- What some lines read as, by computing. Assumes nothing.
 use mathlib.Core.Path.{refl}
 use Rattle.ctaphid.specs.Choice.{pick}
-use Rattle.bench_input.specs.Hex.{hex_of, is_digit, is_hex_digit, hex_value, all_hex, bytes_of, is_hex}
-use Rattle.bench_input.specs.Lines.{is_flag, is_formed, input_of, line_of}
+use Rattle.bench_input.specs.Hex.{hex_of, hex_value, bytes_of, is_hex}
+use Rattle.bench_input.specs.Lines.{is_formed, input_of, line_of}
 use Rattle.bench_input.specs.Examples.{Examples}
 
 pub examples : Examples
-unfolding pick hex_of is_digit is_hex_digit hex_value all_hex bytes_of is_flag is_hex is_formed input_of line_of
+unfolding pick hex_of hex_value bytes_of is_hex is_formed input_of line_of
 examples = record {
   first = refl;
   flagged = refl;

@@ -15,7 +15,9 @@ use Rattle.collect.specs.declared.Added.{Added}
 use Rattle.collect.specs.declared.Added.TheVariants as added_is
 use Rattle.collect.proofs.Adding.{add-waits, add-whole}
 use Rattle.bench_input.specs.Pieces.{newline, line_from, Keeping, keeping, keep_of, cutting, cut_at, cut_of}
-use Rattle.bench_input.specs.declared.Cut.TheVariants.{Whole, Part, Refused}
+use Rattle.bench_input.specs.declared.Cut.TheVariants.{Whole, Part}
+use Rattle.packet.specs.declared.refusal.Refusal.TheVariants.{Unsound}
+use Rattle.std.proofs.Common.{Ok, Err}
 
 module _ (l : List ℕ) (kept : ℕ) (part : List ℕ) (h : kept ≤ length l) where
   abbrev made : Added → List ℕ → Keeping
@@ -59,11 +61,11 @@ module _ (l : List ℕ) (kept : ℕ) (part : List ℕ) (h : kept ≤ length l) w
 pub ruleset keeps = (kept-waiting, kept_whole, kept-refused)
 
 module _ (l : List ℕ) (kept : ℕ) (input : List ℕ) (from : ℕ) where
-  pub cut-over : length l < kept → cutting (Refused 3) l ≡ cut_of l kept input from
+  pub cut-over : length l < kept → cutting (Err Unsound) l ≡ cut_of l kept input from
   unfolding cut_of pick
   cut-over h = simp (lt-ltb _ _ h)
 
-  pub cut-past : kept ≤ length l → length input < from → cutting (Refused 3) l ≡ cut_of l kept input from
+  pub cut-past : kept ≤ length l → length input < from → cutting (Err Unsound) l ≡ cut_of l kept input from
   unfolding cut_of pick
   cut-past h k = simp (le-ltb _ _ h, lt-ltb _ _ k)
 
@@ -74,11 +76,11 @@ module _ (l : List ℕ) (kept : ℕ) (input : List ℕ) (from : ℕ) where
     unfolding cut_of pick
     cut-here = simp (le-ltb _ _ h, le-ltb _ _ k) (λ i. cut_at (e i) input (is i))
 
-    pub cut-whole : end < length input → cutting (Whole n (end + 1)) l' ≡ cut_of l kept input from
+    pub cut-whole : end < length input → cutting (Ok (Whole n (end + 1))) l' ≡ cut_of l kept input from
     unfolding pick
     cut-whole t = (simp (lt-ltb _ _ t)) ∙ cut-here
 
-    pub cut-part : length input ≤ end → cutting (Part n) l' ≡ cut_of l kept input from
+    pub cut-part : length input ≤ end → cutting (Ok (Part n)) l' ≡ cut_of l kept input from
     unfolding pick
     cut-part t = (simp (le-ltb _ _ t)) ∙ cut-here
 

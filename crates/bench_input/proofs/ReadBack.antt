@@ -4,17 +4,20 @@ use native.Mathlib.Omega.{arith}
 use native.Mathlib.Decide.{dec_lt}
 use native.Mathlib.Numerals.{add-one}
 use mathlib.Core.Path.{◌≡◌, refl, sym, ap, ◌∙◌}
-use mathlib.Core.Bool.{Bool, true, false}
+use mathlib.Core.Bool.{Bool, true, false, ◌&&◌, ◌||◌}
 use mathlib.Core.List.{List, [], ◌∷◌, ◌++◌}
 use borrow.Author.Tests.{lt-ltb, le-ltb, le-leb, lt-leb, leb-true, eq-eqb, eqb-true}
 use lib.Dec.{leb, eqb}
 use lib.ListN.{length, take, get_or, set, replicate, length-append, length-replicate}
 use lib.Seq.{take-suc, take-suc-set}
+use Rattle.std.specs.Char.{is_ascii_digit}
+use Rattle.std.specs.Int.{is_in_range}
+use Rattle.std.specs.List.{list_all}
 use Rattle.ctaphid.specs.Choice.{pick}
 use Rattle.ctaphid.specs.Messages.{padded}
 use Rattle.ctaphid.specs.Packets.{Bytes}
 use Rattle.ctaphid.proofs.Tests.{pick_true}
-use Rattle.bench_input.specs.Hex.{'0', '9', 'a', 'f', hex_digit, hex_of, is_digit, is_hex_digit, hex_value, all_hex, bytes_of, is_hex}
+use Rattle.bench_input.specs.Hex.{'0', '9', 'a', 'f', hex_digit, hex_of, is_hex_digit, hex_value, all_hex, bytes_of, is_hex}
 
 -- ---- a choice by a test that is known
 
@@ -30,49 +33,54 @@ pub passed : {A : Type 0} {test : Bool} (a b : A) → test ≡ false → pick te
 unfolding pick
 passed a b e = simp e
 
+-- ---- tests that both hold
+
+pub and_true : (a b : Bool) → (a && b) ≡ true → (a ≡ true) × (b ≡ true)
+and_true true b e = (refl, e)
+and_true false b e = absurd (cc)
+
+within : (low high c : ℕ) → is_in_range low high c ≡ true → (low ≤ c) × (c ≤ high)
+within low high c e = let p = and_true (leb low c) (leb c high) e in (leb-true low c p.0, leb-true c high p.1)
+
+within_given : (low high c : ℕ) → low ≤ c → c ≤ high → is_in_range low high c ≡ true
+within_given low high c h k = simp (le-leb low c h, le-leb c high k)
+
 -- ---- a character
 
 module _ (c : ℕ) where
-  pub digit-is : is_digit c ≡ true → ('0' ≤ c) × (c ≤ '9')
-  unfolding is_digit
-  digit-is e = let p = pick_true (leb '0' c) _ e in (leb-true '0' c p.0, leb-true c '9' p.1)
+  pub digit-is : is_ascii_digit c ≡ true → ('0' ≤ c) × (c ≤ '9')
+  digit-is e = within '0' '9' c e
 
-  pub digit_given : '0' ≤ c → c ≤ '9' → is_digit c ≡ true
-  unfolding is_digit pick
-  digit_given h k = simp (le-leb '0' c h, le-leb c '9' k)
+  pub digit_given : '0' ≤ c → c ≤ '9' → is_ascii_digit c ≡ true
+  digit_given h k = within_given '0' '9' c h k
 
-  pub below-digits : c < '0' → is_digit c ≡ false
-  unfolding is_digit pick
+  pub below-digits : c < '0' → is_ascii_digit c ≡ false
   below-digits h = simp (lt-leb '0' c h)
 
-  pub above-digits : '0' ≤ c → '9' < c → is_digit c ≡ false
-  unfolding is_digit pick
+  pub above-digits : '0' ≤ c → '9' < c → is_ascii_digit c ≡ false
   above-digits h k = simp (le-leb '0' c h, lt-leb c '9' k)
 
-  pub letter-is : is_digit c ≡ false → is_hex_digit c ≡ true → ('a' ≤ c) × (c ≤ 'f')
-  unfolding is_hex_digit
-  letter-is d e = let p = pick_true (leb 'a' c) (leb c 'f') (sym (passed _ _ d) ∙ e) in (leb-true 'a' c p.0, leb-true c 'f' p.1)
+  pub letter-is : is_ascii_digit c ≡ false → is_hex_digit c ≡ true → ('a' ≤ c) × (c ≤ 'f')
+  letter-is d e = within 'a' 'f' c (sym (ap (λ (b : Bool). b || is_in_range 'a' 'f' c) d) ∙ e)
 
-  pub digit-hex : is_digit c ≡ true → is_hex_digit c ≡ true
-  unfolding is_hex_digit
-  digit-hex d = picked _ _ d
+  pub digit-hex : is_ascii_digit c ≡ true → is_hex_digit c ≡ true
+  digit-hex d = ap (λ (b : Bool). b || is_in_range 'a' 'f' c) d
 
   pub letter-hex : 'a' ≤ c → c ≤ 'f' → is_hex_digit c ≡ true
-  unfolding is_hex_digit pick
-  letter-hex h k = simp (above-digits (omega arith) (omega arith), le-leb 'a' c h, le-leb c 'f' k)
+  letter-hex h k = ap (λ (b : Bool). b || is_in_range 'a' 'f' c) (above-digits (omega arith) (omega arith)) ∙ within_given 'a' 'f' c h k
 
-  pub digit_value : is_digit c ≡ true → hex_value c ≡ c - '0'
+  pub digit_value : is_ascii_digit c ≡ true → hex_value c ≡ c - '0'
   unfolding hex_value
   digit_value d = picked _ _ d
 
-  pub letter-value : is_digit c ≡ false → hex_value c ≡ c - 'a' + 10
+  pub letter-value : is_ascii_digit c ≡ false → hex_value c ≡ c - 'a' + 10
   unfolding hex_value
   letter-value d = passed _ _ d
 
   -- a hex digit is a digit or one of the six letters, and its value is known
   by-hex : {P : Type 0} → is_hex_digit c ≡ true → ('0' ≤ c → c ≤ '9' → hex_value c ≡ c - '0' → P) → ('a' ≤ c → c ≤ 'f' → hex_value c ≡ c - 'a' + 10 → P) → P
   by-hex e digit letter =
-      by_bool (is_digit c)
+      by_bool (is_ascii_digit c)
       (λ d. digit (digit-is d).0 (digit-is d).1 (digit_value d))
       (λ d. letter (letter-is d e).0 (letter-is d e).1 (letter-value d))
 
@@ -99,15 +107,15 @@ module _ (v : ℕ) where
   digit-is-hex h = by_size (dec_lt v 10)
     where
       by_size : Dec (v < 10) → is_hex_digit (hex_digit v) ≡ true
-      by_size (yes l) = rw (low_digit l) (digit-hex _ (digit_given _ (omega arith) (omega arith)))
-      by_size (no l) = rw (high_digit (omega arith)) (letter-hex _ (omega arith) (omega arith))
+      by_size (yes l) = rw (low_digit l) (digit-hex ('0' + v) (digit_given ('0' + v) (omega arith) (omega arith)))
+      by_size (no l) = rw (high_digit (omega arith)) (letter-hex ('a' + (v - 10)) (omega arith) (omega arith))
 
   pub value-of-digit : v < 16 → hex_value (hex_digit v) ≡ v
   value-of-digit h = by_size (dec_lt v 10)
     where
       by_size : Dec (v < 10) → hex_value (hex_digit v) ≡ v
-      by_size (yes l) = rw (low_digit l, digit_value ('0' + v) (digit_given _ (omega arith) (omega arith))) (omega arith)
-      by_size (no l) = rw (high_digit (omega arith), letter-value ('a' + (v - 10)) (above-digits _ (omega arith) (omega arith))) (omega arith)
+      by_size (yes l) = rw (low_digit l, digit_value ('0' + v) (digit_given ('0' + v) (omega arith) (omega arith))) (omega arith)
+      by_size (no l) = rw (high_digit (omega arith), letter-value ('a' + (v - 10)) (above-digits ('a' + (v - 10)) (omega arith) (omega arith))) (omega arith)
 
 -- ---- bytes
 
@@ -117,12 +125,11 @@ length-hex [] = refl
 length-hex (b ∷ bytes) = omega (arith, length-hex bytes)
 
 pub hex-all : (bytes : List ℕ) → Bytes bytes → all_hex (hex_of bytes) ≡ true
-unfolding hex_of all_hex
+unfolding hex_of
 hex-all [] h = refl
 hex-all (b ∷ bytes) h =
-    picked _ _ (digit-is-hex (b / 16) (omega (arith, h 0)))
-    ∙ picked _ _ (digit-is-hex (b % 16) (omega arith))
-    ∙ hex-all bytes (λ i. h (suc i))
+    let rest : list_all is_hex_digit (hex_of bytes) ≡ true = hex-all bytes (λ i. h (suc i)) in
+    simp (digit-is-hex (b / 16) (omega (arith, h 0)), digit-is-hex (b % 16) (omega arith), rest)
 
 pub hex-read : (bytes : List ℕ) → Bytes bytes → bytes_of (hex_of bytes) ≡ bytes
 unfolding hex_of bytes_of
@@ -137,23 +144,19 @@ hex-read (b ∷ bytes) h =
 
 -- each character of hex is a hex digit
 pub hex-at : (hex : List ℕ) → all_hex hex ≡ true → (i : ℕ) → i < length hex → is_hex_digit (get_or hex i 0) ≡ true
-unfolding all_hex
 hex-at [] e i h = absurd (omega arith)
-hex-at (c ∷ rest) e zero h = (pick_true (is_hex_digit c) (all_hex rest) e).0
-hex-at (c ∷ rest) e (suc i) h = hex-at rest (pick_true (is_hex_digit c) (all_hex rest) e).1 i (omega arith)
+hex-at (c ∷ rest) e zero h = (and_true (is_hex_digit c) (all_hex rest) e).0
+hex-at (c ∷ rest) e (suc i) h = hex-at rest (and_true (is_hex_digit c) (all_hex rest) e).1 i (omega arith)
 
 module _ (high low : ℕ) (rest : List ℕ) (e : all_hex (high ∷ (low ∷ rest)) ≡ true) where
   pub high-hex : is_hex_digit high ≡ true
-  unfolding all_hex
-  high-hex = (pick_true (is_hex_digit high) (all_hex (low ∷ rest)) e).0
+  high-hex = (and_true (is_hex_digit high) (all_hex (low ∷ rest)) e).0
 
   pub low-hex : is_hex_digit low ≡ true
-  unfolding all_hex
-  low-hex = (pick_true (is_hex_digit low) (all_hex rest) (pick_true (is_hex_digit high) (all_hex (low ∷ rest)) e).1).0
+  low-hex = (and_true (is_hex_digit low) (all_hex rest) (and_true (is_hex_digit high) (all_hex (low ∷ rest)) e).1).0
 
   pub rest-hex : all_hex rest ≡ true
-  unfolding all_hex
-  rest-hex = (pick_true (is_hex_digit low) (all_hex rest) (pick_true (is_hex_digit high) (all_hex (low ∷ rest)) e).1).1
+  rest-hex = (and_true (is_hex_digit low) (all_hex rest) (and_true (is_hex_digit high) (all_hex (low ∷ rest)) e).1).1
 
 pub read_length : (hex : List ℕ) → length hex % 2 ≡ 0 → 2 * length (bytes_of hex) ≡ length hex
 unfolding bytes_of

@@ -1,5 +1,8 @@
 -- Characters, and bytes in lower-case hex, written and read back. Assumes nothing.
-use Rattle.std.specs.Prelude.{ℕ, ◌+◌, ◌-◌, ◌*◌, ◌/◌, ◌%◌, Bool, true, false, List, [], ◌∷◌, length, leb, ltb, eqb}
+use Rattle.std.specs.Prelude.{ℕ, ◌+◌, ◌-◌, ◌*◌, ◌/◌, ◌%◌, Bool, ◌||◌, List, [], ◌∷◌, length, leb, ltb, eqb}
+use Rattle.std.specs.Char.{is_ascii_digit}
+use Rattle.std.specs.Int.{is_in_range}
+use Rattle.std.specs.List.{list_all}
 use Prim.Native.Char.{code}
 use Prim.Native.String.{String, [] as empty, ◌∷◌ as ◌then◌}
 use Rattle.ctaphid.specs.Choice.{pick, every}
@@ -41,19 +44,15 @@ hex_of (byte ∷ rest) = hex_digit (byte / 16) ∷ hex_digit (byte % 16) ∷ hex
 
 -- ---- bytes read back
 
-unfoldable pub is_digit : ℕ → Bool
-is_digit c = every (leb '0' c ∷ leb c '9' ∷ [])
-
 -- a capital letter is none
-unfoldable pub is_hex_digit : ℕ → Bool
-is_hex_digit c = pick (is_digit c) true (every (leb 'a' c ∷ leb c 'f' ∷ []))
+abbrev pub is_hex_digit : ℕ → Bool
+is_hex_digit c = is_ascii_digit c || is_in_range 'a' 'f' c
 
 unfoldable pub hex_value : ℕ → ℕ
-hex_value c = pick (is_digit c) (c - '0') (c - 'a' + 10)
+hex_value c = pick (is_ascii_digit c) (c - '0') (c - 'a' + 10)
 
-unfoldable pub all_hex : List ℕ → Bool
-all_hex [] = true
-all_hex (c ∷ rest) = pick (is_hex_digit c) (all_hex rest) false
+abbrev pub all_hex : List ℕ → Bool
+all_hex hex = list_all is_hex_digit hex
 
 -- two by two; a last character without a partner says nothing
 unfoldable pub bytes_of : List ℕ → List ℕ

@@ -1,3 +1,4 @@
+pub mod Refusing
 pub mod Pieces
 pub mod Hex
 pub mod Lines

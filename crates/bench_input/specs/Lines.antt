@@ -1,13 +1,17 @@
 -- docs/RULES.md, The bench's lines: a line `time disabled hex` of its input, as it is written and as it is read. A line is the list of its characters, without the
 -- newline. Assumes nothing.
-use Rattle.std.specs.Prelude.{ℕ, suc, ◌+◌, ◌-◌, ◌*◌, ◌≤◌, ◌≡◌, Bool, true, false, not, List, [], ◌∷◌, ◌++◌, length, take, drop, get_or, leb, eqb}
-use Rattle.ctaphid.specs.Choice.{pick, every, refusing}
+use Rattle.std.specs.Prelude.{ℕ, ◌+◌, ◌-◌, ◌*◌, ◌≤◌, ◌≡◌, Bool, true, false, not, ◌||◌, List, [], ◌∷◌, ◌++◌, Option, Some, None, Result, Ok, Err, length, take, drop, get_or, leb, eqb}
+use Rattle.std.specs.Char.{is_ascii_digit}
+use Rattle.std.specs.List.{prefix_len}
+use Rattle.ctaphid.specs.Choice.{pick, every}
+use Rattle.bench_input.specs.Refusing.{refusing}
+use Rattle.packet.specs.declared.refusal.Refusal.{Refusal}
+use Rattle.packet.specs.declared.refusal.Refusal.TheVariants.{PacketSize}
 use Rattle.ctaphid.specs.Limits.{packet_size}
 use Rattle.ctaphid.specs.Messages.{padded}
 use Rattle.ctaphid.specs.Packets.{Bytes}
-use Rattle.bench_input.specs.Hex.{'0', '1', '9', space, hex_of, is_digit, bytes_of, is_hex}
+use Rattle.bench_input.specs.Hex.{'0', '1', '9', space, hex_of, bytes_of, is_hex}
 use Rattle.bench_input.specs.declared.Line.{Line}
-use Rattle.bench_input.specs.declared.Line.TheVariants as line
 
 -- ---- what a line says
 
@@ -55,11 +59,10 @@ pub data Reading : Type 0 where
 
 -- how many digits a line begins with
 abbrev pub digits_in : List ℕ → ℕ
-digits_in [] = 0
-digits_in (c ∷ rest) = pick (is_digit c) (suc (digits_in rest)) 0
+digits_in l = prefix_len is_ascii_digit l
 
-unfoldable pub is_flag : ℕ → Bool
-is_flag c = pick (eqb c '0') true (eqb c '1')
+abbrev pub is_flag : ℕ → Bool
+is_flag c = eqb c '0' || eqb c '1'
 
 -- with n digits in front, a line goes on with a space, a flag, a space, and hex to its end
 unfoldable pub is_formed : List ℕ → (n : ℕ) → Bool
@@ -96,27 +99,27 @@ pub record OneReading : Type 0 where
 -- ---- all that a call leaves: its answer, and the packet
 
 pub record Read : Type 0 where
-  pub answer : Line
+  pub answer : Result (Option Line) Refusal
   pub packet : List ℕ
 
-abbrev pub read : Line → List ℕ → Read
+abbrev pub read : Result (Option Line) Refusal → List ℕ → Read
 read answer p = record { answer = answer; packet = p }
 
 -- missing bytes are 0
 abbrev pub read_to : Input → Read
-read_to i = read (line.Input i.time i.disabled) (padded packet_size i.bytes)
+read_to i = read (Ok (Some (record { time = i.time; disabled = i.disabled }))) (padded packet_size i.bytes)
 
 -- a line without a reading leaves the packet as it was
 abbrev pub read_into : Reading → (packet : List ℕ) → Read
 read_into (reads i) p = read_to i
-read_into unread p = read line.Unread p
+read_into unread p = read (Ok None) p
 
 -- refusal 1, then the reading
 unfoldable pub read_line_of : (line packet : List ℕ) → Read
 read_line_of l p =
-    refusing (λ number. read (line.Refused number) p) ((not (eqb (length p) packet_size), 1) ∷ []) (read_into (line_of l) p)
+    refusing (λ refusal. read (Err refusal) p) ((not (eqb (length p) packet_size), PacketSize) ∷ []) (read_into (line_of l) p)
 
 -- so that what a call leaves is told by what is written in the line, and where no input is, the packet stays as it was
 pub record CallsAsWritten : Type 0 where
   pub input : (l p : List ℕ) (i : Input) → length p ≡ packet_size → Written l i → read_line_of l p ≡ read_to i
-  pub unread : (l p : List ℕ) → length p ≡ packet_size → ((i : Input) → Written l i → ⊥) → read_line_of l p ≡ read line.Unread p
+  pub unread : (l p : List ℕ) → length p ≡ packet_size → ((i : Input) → Written l i → ⊥) → read_line_of l p ≡ read (Ok None) p

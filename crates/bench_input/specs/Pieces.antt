@@ -1,10 +1,13 @@
 -- Input that comes in pieces, cut into lines. Assumes nothing.
-use Rattle.std.specs.Prelude.{ℕ, ◌+◌, min, List, [], ◌∷◌, ◌++◌, length, take, drop, ltb, ◌==◌}
+use Rattle.std.specs.Prelude.{ℕ, ◌+◌, min, List, [], ◌∷◌, ◌++◌, Result, Ok, Err, length, take, drop, ltb, ◌==◌}
 use Rattle.std.specs.List.{position_or_len}
-use Rattle.ctaphid.specs.Choice.{pick, refusing}
+use Rattle.ctaphid.specs.Choice.{pick}
+use Rattle.bench_input.specs.Refusing.{refusing}
+use Rattle.packet.specs.declared.refusal.Refusal.{Refusal}
+use Rattle.packet.specs.declared.refusal.Refusal.TheVariants.{Unsound}
 use Rattle.collect.specs.Adding.{front}
 use Rattle.bench_input.specs.declared.Cut.{Cut}
-use Rattle.bench_input.specs.declared.Cut.TheVariants.{Whole, Part, Refused}
+use Rattle.bench_input.specs.declared.Cut.TheVariants.{Whole, Part}
 
 -- a line ends at the first newline
 abbrev pub newline : ℕ
@@ -29,20 +32,20 @@ keep_of l kept part =
 
 -- all that a call leaves: its answer, and the buffer
 pub record Cutting : Type 0 where
-  pub answer : Cut
+  pub answer : Result Cut Refusal
   pub line : List ℕ
 
-abbrev pub cutting : Cut → List ℕ → Cutting
+abbrev pub cutting : Result Cut Refusal → List ℕ → Cutting
 cutting a l = record { answer = a; line = l }
 
 -- the line is whole where its newline stands in the piece
 abbrev pub cut_at : Keeping → (input : List ℕ) (end : ℕ) → Cutting
 cut_at k input end =
-    pick (ltb end (length input)) (cutting (Whole k.kept (end + 1)) k.line) (cutting (Part k.kept) k.line)
+    pick (ltb end (length input)) (cutting (Ok (Whole k.kept (end + 1))) k.line) (cutting (Ok (Part k.kept)) k.line)
 
 -- refusal 3: more is kept than the buffer has, or the place is past the piece's end
 unfoldable pub cut_of : (line : List ℕ) (kept : ℕ) (input : List ℕ) (from : ℕ) → Cutting
 cut_of l kept input from =
-    refusing (λ number. cutting (Refused number) l)
-    ((ltb (length l) kept, 3) ∷ (ltb (length input) from, 3) ∷ [])
+    refusing (λ refusal. cutting (Err refusal) l)
+    ((ltb (length l) kept, Unsound) ∷ (ltb (length input) from, Unsound) ∷ [])
     (cut_at (keep_of l kept (line_from input from)) input (from + length (line_from input from)))

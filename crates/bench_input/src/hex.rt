@@ -1,19 +1,13 @@
 // Bytes in lower-case hex, read.
 ghost use Rattle.std.specs.Prelude.{◌≡◌, true, ◌≤◌, ◌<◌, length, get_or};
 ghost use Rattle.ctaphid.specs.Messages.{padded};
-ghost use Rattle.bench_input.specs.Hex.{is_digit, is_hex_digit, hex_value, all_hex, bytes_of, is_hex};
+ghost use Rattle.bench_input.specs.Hex.{is_hex_digit, hex_value, all_hex, bytes_of, is_hex};
 
 // Whether these are 1 to 64 bytes in lower-case hex.
 pub(crate) fn is_hex(hex: &[u8]) -> bool
     ensures { result ≡ is_hex hex.now }
 {
-    if hex.len() < 2 {
-        return false;
-    }
-    if hex.len() > MOST_HEX {
-        return false;
-    }
-    if hex.len() % 2 != 0 {
+    if hex.len() < 2 || hex.len() > MOST_HEX || hex.len() % 2 != 0 {
         return false;
     }
     all_hex(hex)
@@ -24,15 +18,7 @@ const MOST_HEX: usize = 128;
 fn all_hex(hex: &[u8]) -> bool
     ensures { result ≡ all_hex hex.now }
 {
-    let mut i = 0;
-    while i < hex.len() {
-        if is_hex_digit(hex[i]) {
-            i += 1;
-        } else {
-            return false;
-        }
-    }
-    true
+    hex.iter().all(|c| is_hex_digit(*c))
 }
 
 // The bytes that the hex says, and zeros after them.
@@ -40,10 +26,8 @@ pub(crate) fn decode(hex: &[u8], packet: &mut [u8])
     requires { (is_hex hex.now ≡ true) × (length packet.old ≡ 64) }
     ensures { packet.new ≡ padded 64 (bytes_of hex.now) }
 {
-    let mut i = 0;
-    while i < packet.len() {
-        packet[i] = byte_at(hex, i);
-        i += 1;
+    for (i, byte) in packet.iter_mut().enumerate() {
+        *byte = byte_at(hex, i);
     }
 }
 
@@ -60,34 +44,20 @@ fn byte_at(hex: &[u8], index: usize) -> u8
     16 * hex_value(hex[high]) + hex_value(hex[low])
 }
 
-pub(crate) fn is_digit(c: u8) -> bool
-    ensures { result ≡ is_digit c }
-{
-    if c < b'0' {
-        return false;
-    }
-    c <= b'9'
-}
-
 // No capital letter is one.
 fn is_hex_digit(c: u8) -> bool
     ensures { result ≡ is_hex_digit c }
 {
-    if is_digit(c) {
-        return true;
-    }
-    if c < b'a' {
-        return false;
-    }
-    c <= b'f'
+    matches!(c, b'0'..=b'9' | b'a'..=b'f')
 }
 
 fn hex_value(c: u8) -> u8
     requires { is_hex_digit c ≡ true }
     ensures { (result ≡ hex_value c) × (result < 16) }
 {
-    if is_digit(c) {
-        return c - b'0';
+    if c.is_ascii_digit() {
+        c - b'0'
+    } else {
+        c - b'a' + 10
     }
-    c - b'a' + 10
 }

@@ -9,19 +9,17 @@ pub use lines::read_line;
 pub use pieces::cut_line;
 
 // Where a line ends in a piece of input. kept bytes of it stand at the line buffer's front: all of them, or as many as there is room for.
-#[derive(Clone, Copy)]
+#[derive(Clone, Copy, Debug, PartialEq, Eq)]
 pub enum Cut {
     // The next line begins at next.
     Whole { kept: usize, next: usize },
     // The piece ends first.
     Part(usize),
-    Refused(u8),
 }
 
-// What a line of the bench says. The packet stands beside, as no enum holds an array.
-#[derive(Clone, Copy)]
-pub enum Line {
-    Input { time: u64, disabled: bool },
-    Unread,
-    Refused(u8),
+// What a line of the bench says. The packet stands beside, as read_line writes it into the caller's.
+#[derive(Clone, Copy, Debug, PartialEq, Eq)]
+pub struct Line {
+    pub time: u64,
+    pub disabled: bool,
 }

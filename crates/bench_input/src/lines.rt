@@ -3,37 +3,29 @@ ghost use Rattle.std.specs.Prelude.{◌≡◌, true, ◌≤◌, length};
 ghost use Rattle.bench_input.specs.Lines.{Decimal, number_of, digits_in, is_flag, is_formed, input_of, read, read_to, read_line_of};
 
 use crate::Line;
-use crate::hex::{decode, is_digit, is_hex};
+use crate::hex::{decode, is_hex};
 use packet::{Limits, Refusal};
 
-// Reads a line, without its newline. The packet gets the line's bytes, and zeros up to 64; a line that has no reading leaves it as it was.
-// A packet slice that isn't 64 bytes is refused with 1.
-pub fn read_line(line: &[u8], packet: &mut [u8]) -> Line
+// Reads a line, without its newline: None where it has no reading. The packet gets the line's bytes, and zeros up to 64; a line that has no reading leaves it as
+// it was. A packet slice that isn't 64 bytes is refused with 1.
+pub fn read_line(line: &[u8], packet: &mut [u8]) -> Result<Option<Line>, Refusal>
     ensures { read result packet.new ≡ read_line_of line.now packet.old }
 {
     if packet.len() != Limits::PACKET_SIZE {
-        return Line::Refused(Refusal::PACKET_SIZE);
+        return Err(Refusal::PacketSize);
     }
     let digits = digits_in(line);
     if is_formed(line, digits) {
-        return take_input(line, digits, packet);
+        return Ok(Some(take_input(line, digits, packet)));
     }
-    Line::Unread
+    Ok(None)
 }
 
 // How many digits a line begins with.
 fn digits_in(line: &[u8]) -> usize
     ensures { result ≡ digits_in line.now }
 {
-    let mut i = 0;
-    while i < line.len() {
-        if is_digit(line[i]) {
-            i += 1;
-        } else {
-            return i;
-        }
-    }
-    i
+    line.iter().take_while(|c| c.is_ascii_digit()).count()
 }
 
 // Whether a line with so many digits in front has the form of an input.
@@ -69,21 +61,18 @@ const MOST_DIGITS: usize = 15;
 fn is_flag(c: u8) -> bool
     ensures { result ≡ is_flag c }
 {
-    if c == b'0' {
-        return true;
-    }
-    c == b'1'
+    c == b'0' || c == b'1'
 }
 
 // The input of a line that has the form. Its bytes go into the packet.
 fn take_input(line: &[u8], digits: usize, packet: &mut [u8]) -> Line
     requires { (digits ≡ digits_in line.now) × (is_formed line.now digits ≡ true) × (length packet.old ≡ 64) }
-    ensures { read result packet.new ≡ read_to (input_of line.now digits) }
+    ensures { read (Ok (Some result)) packet.new ≡ read_to (input_of line.now digits) }
 {
     let flag = digits + 1;
     let hex = digits + 3;
     decode(&line[hex..], packet);
-    Line::Input {
+    Line {
         time: number(&line[..digits]),
         disabled: line[flag] == b'1',
     }
@@ -95,16 +84,8 @@ fn number(digits: &[u8]) -> u64
     ensures { result ≡ number_of digits.now }
 {
     let mut value: u64 = 0;
-    let mut i = 0;
-    while i < digits.len() {
-        value = 10 * value + wide(digits[i] - b'0');
-        i += 1;
+    for digit in digits {
+        value = 10 * value + u64::from(*digit - b'0');
     }
     value
-}
-
-fn wide(x: u8) -> u64
-    ensures { result ≡ x }
-{
-    x as u64
 }

@@ -10,24 +10,24 @@ use packet::Refusal;
 const NEWLINE: u8 = 10;
 
 // Adds to a line what a piece of input has of it from a place on. Places that are not in the buffer, or in the piece, are refused with 3.
-pub fn cut_line(line: &mut [u8], kept: usize, input: &[u8], from: usize) -> Cut
+pub fn cut_line(line: &mut [u8], kept: usize, input: &[u8], from: usize) -> Result<Cut, Refusal>
     ensures { cutting result line.new ≡ cut_of line.old kept input.now from }
 {
     if kept > line.len() {
-        return Cut::Refused(Refusal::UNSOUND);
+        return Err(Refusal::Unsound);
     }
     if from > input.len() {
-        return Cut::Refused(Refusal::UNSOUND);
+        return Err(Refusal::Unsound);
     }
     let end = line_end(input, from);
     let now_kept = keep(line, kept, &input[from..end]);
     if end < input.len() {
-        return Cut::Whole {
+        return Ok(Cut::Whole {
             kept: now_kept,
             next: end + 1,
-        };
+        });
     }
-    Cut::Part(now_kept)
+    Ok(Cut::Part(now_kept))
 }
 
 // Where the line that begins at a place ends: at its newline, or with the piece.

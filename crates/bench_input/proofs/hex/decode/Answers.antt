@@ -1,16 +1,11 @@
 use native.Mathlib.Omega.{arith}
-use mathlib.Core.Path.{◌≡◌, refl, sym, ◌∙◌}
-use lib.ListN.{length, length-set}
+use mathlib.Core.Path.{◌≡◌, sym, ◌∙◌}
+use lib.ListN.{length}
 use lib.Seq.{take_all}
 use Rattle.ctaphid.specs.Messages.{padded}
 use Rattle.bench_input.specs.Hex.{bytes_of}
-use Rattle.bench_input.proofs.ReadBack.{read_length, padded-at, padded-length, front-more}
-use Rattle.bench_input.proofs.ReadBack.{hex-is}
-use Rattle.std.proofs.Common.{rules}
+use Rattle.bench_input.proofs.ReadBack.{hex-is, read_length, padded-at, padded-length, front-more}
 use Rattle.bench_input.proofs.hex.decode.Goals as goal
-
-pub loop-i-init : goal.loop-i-init
-loop-i-init c = (search rules, c.requires.1, refl)
 
 pub byte_at-requires : goal.byte_at-requires
 byte_at-requires c = ((hex-is c.args.hex.now c.requires.0).all, omega arith)
@@ -20,11 +15,8 @@ loop-i-preserved c =
     let at = c.loop-i in
     let hex = c.args.hex.now in
     let h = hex-is hex c.requires.0 in
-    let size : length (padded 64 (bytes_of hex)) ≡ 64 = padded-length 64 (bytes_of hex) (omega (arith, read_length hex h.even)) in (
-      search rules,
-      simp length-set at.invariant.1,
-      front-more (padded 64 (bytes_of hex)) at.packet at.i _ (omega arith) (omega arith) at.invariant.2 (c.byte_at.ensures ∙ sym (padded-at 64 (bytes_of hex) at.i)),
-    )
+    let size : length (padded 64 (bytes_of hex)) ≡ 64 = padded-length 64 (bytes_of hex) (omega (arith, read_length hex h.even)) in
+    front-more (padded 64 (bytes_of hex)) at.packet at.i _ (omega arith) (omega arith) at.invariant (c.byte_at.ensures ∙ sym (padded-at 64 (bytes_of hex) at.i))
 
 pub returns : goal.returns
 returns c =
@@ -32,4 +24,4 @@ returns c =
     let hex = c.args.hex.now in
     let h = hex-is hex c.requires.0 in
     let size : length (padded 64 (bytes_of hex)) ≡ 64 = padded-length 64 (bytes_of hex) (omega (arith, read_length hex h.even)) in
-    sym (take_all at.i at.packet (omega arith)) ∙ (at.invariant.2 ∙ take_all at.i (padded 64 (bytes_of hex)) (omega arith))
+    sym (take_all at.i at.packet (omega arith)) ∙ (at.invariant ∙ take_all at.i (padded 64 (bytes_of hex)) (omega arith))

@@ -8,7 +8,7 @@ use lib.Dec.{eqb}
 use Rattle.bench_input.specs.Hex.{'1', bytes_of, is_hex}
 use Rattle.ctaphid.specs.Messages.{padded}
 use Rattle.bench_input.specs.Lines.{Decimal, input_of, read}
-use Rattle.bench_input.specs.declared.Line.TheVariants.{Input}
+use Rattle.std.proofs.Common.{Ok, Some}
 use Rattle.packet.proofs.Parts.{rest}
 use Rattle.bench_input.proofs.Digits.{in-front}
 use Rattle.bench_input.proofs.AsWritten.{form-is}
@@ -53,4 +53,4 @@ returns c =
     let l = c.args.line.now in
     let n = c.args.digits in
     let bytes = c.decode.ensures ∙ ap (λ (h : List ℕ). padded 64 (bytes_of h)) (rest (n + 3) l) in
-    λ i. read (Input (c.number.ensures i) (eqb (get_or l (n + 1) 0) '1')) (bytes i)
+    λ i. read (Ok (Some (record { time = c.number.ensures i; disabled = eqb (get_or l (n + 1) 0) '1' }))) (bytes i)
