@@ -22,8 +22,9 @@ use Rattle.bench_output.specs.Printing.{refused_line, command_line, answer_lines
 use Rattle.bench_input.proofs.ReadBack.{length-hex}
 use Rattle.bench_output.proofs.Spelling.{decimal-length, payload-length}
 use Rattle.bench_output.proofs.Cutting.{lines-length}
-use Rattle.bench_output.specs.declared.Text.{Text}
-use Rattle.bench_output.specs.declared.Text.TheVariants.{Bytes, Refused}
+use Rattle.std.proofs.Common.{Result, Ok, Err}
+use Rattle.packet.specs.declared.refusal.Refusal.{Refusal}
+use Rattle.packet.specs.declared.refusal.Refusal.TheVariants.{ShortBuffer, Command, LongPayload}
 
 -- ---- a command that is sent is one that a packet can carry
 module _ {a : Answer} (h : is_unsendable a ≡ false) {k : ℕ} {c len : ℕ} {cmd : CtapHidCommand} (is : k ≡ number (command_meant cmd)) where
@@ -69,16 +70,16 @@ module _ {a : Answer} (payload : List ℕ) {out left : List ℕ} {r : ℕ} where
 
 -- ---- what a call leaves
 module _ (a : Answer) (m r out : List ℕ) where
-  pub text-2 : length out < 16899 → text_of a m r out ≡ printing (Refused 2) out
+  pub text-2 : length out < 16899 → text_of a m r out ≡ printing (Err ShortBuffer) out
   unfolding text_of pick
   text-2 h = simp (lt-ltb _ _ h)
 
-  pub text-12 : 16899 ≤ length out → {b : Bool} → b ≡ is_unsendable a → b ≡ true → text_of a m r out ≡ printing (Refused 12) out
+  pub text-12 : 16899 ≤ length out → {b : Bool} → b ≡ is_unsendable a → b ≡ true → text_of a m r out ≡ printing (Err Command) out
   unfolding text_of pick
   text-12 h is t = simp (le-ltb (length out) 16899 h, sym is ∙ t)
 
   module _ (h : 16899 ≤ length out) {b : Bool} (sent : b ≡ is_unsendable a) (off : b ≡ false) (payload : List ℕ) (is : payload ≡ payload_of a m r) where
-    pub text-7 : 7609 < length payload → text_of a m r out ≡ printing (Refused 7) out
+    pub text-7 : 7609 < length payload → text_of a m r out ≡ printing (Err LongPayload) out
     unfolding text_of pick
     text-7 n = rw (← is) (simp (le-ltb (length out) 16899 h, sym sent ∙ off, lt-ltb 7609 (length payload) n))
 
@@ -96,16 +97,16 @@ none-longer (answers.Echo c cmd len) payload h = lines-length c (number (command
 none-longer (answers.Reply c cmd len) payload h = lines-length c (number (command_meant cmd)) payload h
 
 -- ---- for a caller, who takes the front of the buffer that a call says
-printed-fits : (text out : List ℕ) {x : Text} {n : ℕ} {left : List ℕ} → x ≡ Bytes n → printing x left ≡ printed text out → (n ≡ length text) × (n ≤ length left)
+printed-fits : (text out : List ℕ) {x : Result ℕ Refusal} {n : ℕ} {left : List ℕ} → x ≡ Ok n → printing x left ≡ printed text out → (n ≡ length text) × (n ≤ length left)
 printed-fits text out {x} {n} {left} is e =
     let same : n ≡ length text = cc (ap (λ (o : Printing). o.answer) e) in
     let long : length left ≡ length text + length (drop (length text) out) = ap (λ (o : Printing). length o.out) e ∙ length-append text (drop (length text) out) in
     (same, omega arith)
 
-refused-not : {number n : ℕ} {x : Text} {left out : List ℕ} → x ≡ Bytes n → printing x left ≡ printing (Refused number) out → ⊥
-refused-not is e = let z : ◌≡◌ {A = ℕ} 0 1 = cc (ap (λ (o : Printing). o.answer) e) in omega arith
+refused-not : {refusal : Refusal} {n : ℕ} {x : Result ℕ Refusal} {left out : List ℕ} → x ≡ Ok n → printing x left ≡ printing (Err refusal) out → ⊥
+refused-not is e = cc (ap (λ (o : Printing). o.answer) e)
 
-pub text-fits : (a : Answer) (m r out : List ℕ) {x : Text} {n : ℕ} {left : List ℕ} → x ≡ Bytes n → printing x left ≡ text_of a m r out → n ≤ length left
+pub text-fits : (a : Answer) (m r out : List ℕ) {x : Result ℕ Refusal} {n : ℕ} {left : List ℕ} → x ≡ Ok n → printing x left ≡ text_of a m r out → n ≤ length left
 text-fits a m r out {x} {n} {left} is e = by-room (dec_le 16899 (length out))
   where
     by-payload : 16899 ≤ length out → is_unsendable a ≡ false → Dec (length (payload_of a m r) ≤ 7609) → n ≤ length left
@@ -121,7 +122,7 @@ text-fits a m r out {x} {n} {left} is e = by-room (dec_le 16899 (length out))
     by-room (yes room) = by-command room (is_unsendable a) refl
     by-room (no room) = absurd (refused-not is (e ∙ text-2 a m r out (omega arith)))
 
-pub hex-fits : (bytes out : List ℕ) {x : Text} {n : ℕ} {left : List ℕ} → x ≡ Bytes n → printing x left ≡ hex_text_of bytes out → (n ≡ 2 * length bytes) × (n ≤ length left)
+pub hex-fits : (bytes out : List ℕ) {x : Result ℕ Refusal} {n : ℕ} {left : List ℕ} → x ≡ Ok n → printing x left ≡ hex_text_of bytes out → (n ≡ 2 * length bytes) × (n ≤ length left)
 unfolding hex_text_of pick
 hex-fits bytes out {x} {n} {left} is e = by-room (dec_le (2 * length bytes) (length out))
   where
@@ -130,5 +131,5 @@ hex-fits bytes out {x} {n} {left} is e = by-room (dec_le (2 * length bytes) (len
         let fits = printed-fits (hex_of bytes) out is (e ∙ simp (le-ltb (length out) (2 * length bytes) room)) in
         (fits.0 ∙ length-hex bytes, fits.1)
     by-room (no room) =
-        let none : printing x left ≡ printing (Refused 2) out = e ∙ simp (lt-ltb (length out) (2 * length bytes) (omega arith)) in
+        let none : printing x left ≡ printing (Err ShortBuffer) out = e ∙ simp (lt-ltb (length out) (2 * length bytes) (omega arith)) in
         absurd (refused-not is none)

@@ -1,22 +1,34 @@
 -- Texts of bytes and numbers, and the zeros at a packet's end. Assumes nothing.
-use Prim.Native.Nat.{ℕ, zero, suc, ◌+◌, ◌-◌, ◌*◌, ◌/◌, ◌%◌, ◌≤◌, ◌<◌}
+use Prim.Native.Nat.{ℕ, zero, suc, ◌+◌, ◌-◌, ◌*◌, ◌/◌, ◌%◌, ◌^◌, ◌≤◌, ◌<◌}
 use native.Mathlib.Omega.{arith}
 use native.Mathlib.Numerals.{add-one}
-use mathlib.Core.Path.{◌≡◌, refl, sym, ap, ◌∙◌}
+use mathlib.Core.Path.{◌≡◌, refl, sym, ap, subst, ◌∙◌}
 use mathlib.Core.List.{List, [], ◌∷◌, ◌++◌, reverse, append_assoc, append-nil, reverse-append, reverse-reverse}
 use borrow.Author.Tests.{lt-ltb, le-ltb, eq-eqb, ne_eqb}
 use Rattle.ctaphid.proofs.Tests.{pick-both}
 use lib.Dec.{eqb, ltb}
 use lib.ListN.{length, take, drop, get_or, length-append, length-reverse, take-append-drop, drop_of_length-le}
-use lib.Seq.{take-suc, take-append-le, drop-append-le, take_all, length-take-le}
+use lib.Seq.{take-suc, take-append-le, drop-append-le, take_all, take-length, length-take-le}
+use Rattle.std.specs.Int.{w32, to_be_bytes}
 use Rattle.ctaphid.specs.Choice.{pick}
+use Rattle.ctaphid.specs.Packets.{four}
 use Rattle.bench_output.specs.Placing.{laid, Put, decimal}
 use Rattle.bench_input.proofs.ReadBack.{length-hex}
 use Rattle.bench_output.proofs.Puts.{put_both}
 use Rattle.bench_input.specs.Hex.{ascii, hex_digit, hex_of}
 use Rattle.bench_output.specs.Packets.{front_zeros_dropped, end_zeros_dropped, trimmed, packet_line}
 use Rattle.bench_output.specs.Printing.{payload_text, printing, printed}
-use Rattle.bench_output.specs.declared.Text.TheVariants.{Bytes}
+use Rattle.std.proofs.Common.{Ok}
+
+-- ---- a channel's four bytes
+
+four-bytes : (n : ℕ) → n < 2 ^ 32 → to_be_bytes w32 n ≡ four n
+four-bytes n h =
+    let first : n / 256 ^ 3 % 256 ≡ n / 0x100_0000 = omega arith in
+    λ i. first i ∷ (n / 0x1_0000 % 0x100) ∷ (n / 0x100 % 0x100) ∷ (n % 0x100) ∷ []
+
+pub four-put : {bytes out left : List ℕ} {at n next : ℕ} → n < 2 ^ 32 → bytes ≡ to_be_bytes w32 n → Put at (hex_of bytes) out next left → Put at (hex_of (four n)) out next left
+four-put {bytes} {out} {left} {at} {n} {next} h e p = subst (λ (l : List ℕ). Put at (hex_of l) out next left) (e ∙ four-bytes n h) p
 
 -- ---- hex
 
@@ -122,6 +134,27 @@ module _ (p : List ℕ) (n : ℕ) (long : 7 < n) (h : n ≤ length p) where
   pub trim-here : (get_or p (n - 1) 0 ≡ 0 → ⊥) → trimmed (take n p) ≡ take n p
   trim-here e = ap trimmed snoc ∙ (trim-other less (get_or p (n - 1) 0) less-long e ∙ sym snoc)
 
+-- zeros from a place on are dropped
+trim-zeros : (p : List ℕ) (n k : ℕ) → 7 ≤ n → n + k ≤ length p → ((j : ℕ) → n ≤ j → j < length p → get_or p j 0 ≡ 0) → trimmed (take (n + k) p) ≡ trimmed (take n p)
+trim-zeros p n zero h r z = let e : n + 0 ≡ n = omega arith in ap (λ (m : ℕ). trimmed (take m p)) e
+trim-zeros p n (suc k) h r z =
+    let e : n + suc k - 1 ≡ n + k = omega arith in
+    trim-back p (n + suc k) (omega arith) (omega arith) (z (n + suc k - 1) (omega arith) (omega arith))
+    ∙ (ap (λ (m : ℕ). trimmed (take m p)) e ∙ trim-zeros p n k h (omega arith) z)
+
+module _ (p : List ℕ) (n : ℕ) (least : 7 ≤ n) (h : n ≤ length p) (zeros : (j : ℕ) → n ≤ j → j < length p → get_or p j 0 ≡ 0) where
+  trimmed-front : trimmed (take n p) ≡ trimmed p
+  trimmed-front =
+      let all : n + (length p - n) ≡ length p = omega arith in
+      sym (trim-zeros p n (length p - n) least (omega arith) zeros) ∙ (ap (λ (m : ℕ). trimmed (take m p)) all ∙ ap trimmed (take-length p))
+
+  -- up to the last byte that isn't 0, or up to the seventh
+  pub shown-last : 7 < n → (get_or p (n - 1) 0 ≡ 0 → ⊥) → take n p ≡ trimmed p
+  shown-last long e = sym (trim-here p n long h e) ∙ trimmed-front
+
+  pub shown-least : n ≡ 7 → take n p ≡ trimmed p
+  shown-least e = sym (trim-seven (take n p) (length-take-le n p h ∙ e)) ∙ trimmed-front
+
 -- ---- lines
 pub line-length : (p : List ℕ) → length p ≤ 64 → length (packet_line p) ≤ 131
 unfolding packet_line
@@ -140,7 +173,7 @@ payload-length [] = omega arith
 payload-length (b ∷ l) = omega (arith, length-hex (b ∷ l))
 
 -- a text at the front
-pub at_front : {t out left : List ℕ} {r : ℕ} → Put 0 t out r left → printing (Bytes r) left ≡ printed t out
+pub at_front : {t out left : List ℕ} {r : ℕ} → Put 0 t out r left → printing (Ok r) left ≡ printed t out
 at_front {t} {out} p =
     let z : 0 + length t ≡ length t = omega arith in
-    λ i. printing (Bytes ((p.next ∙ z) i)) ((p.bytes ∙ ap (λ (k : ℕ). t ++ drop k out) z) i)
+    λ i. printing (Ok ((p.next ∙ z) i)) ((p.bytes ∙ ap (λ (k : ℕ). t ++ drop k out) z) i)

@@ -1,6 +1,6 @@
 -- The lines that an answer of the device prints (docs/RULES.md, The bench's lines). Assumes nothing.
-use Rattle.std.specs.Prelude.{ℕ, ◌+◌, ◌*◌, ◌≤◌, List, [], ◌∷◌, ◌++◌, Bool, false, length, ltb}
-use Rattle.ctaphid.specs.Choice.{refusing}
+use Rattle.std.specs.Prelude.{ℕ, ◌+◌, ◌*◌, ◌≤◌, List, [], ◌∷◌, ◌++◌, Bool, false, Result, Ok, Err, length, ltb}
+use Rattle.bench_input.specs.Refusing.{refusing}
 use Rattle.ctaphid.specs.Limits.{largest}
 use Rattle.ctaphid.specs.Commands.{number}
 use Rattle.ctaphid.specs.Packets.{four}
@@ -14,8 +14,8 @@ use Rattle.answers.specs.Payloads.{payload_of}
 use Rattle.bench_input.specs.Hex.{ascii, hex_of}
 use Rattle.bench_output.specs.Placing.{decimal}
 use Rattle.bench_output.specs.Packets.{packet_lines}
-use Rattle.bench_output.specs.declared.Text.{Text}
-use Rattle.bench_output.specs.declared.Text.TheVariants.{Bytes, Refused}
+use Rattle.packet.specs.declared.refusal.Refusal.{Refusal}
+use Rattle.packet.specs.declared.refusal.Refusal.TheVariants.{ShortBuffer, Command, LongPayload}
 
 -- ---- lines
 
@@ -61,30 +61,30 @@ is_unsendable (answers.Reply c cmd len) = ltb 127 (number (command_meant cmd))
 abbrev pub longest : ℕ
 longest = 129 * (2 + 2 * 64 + 1)
 
--- all that a call leaves: its answer, and the text buffer
+-- all that a call leaves: its answer, which is how much of the text buffer's front was written, and that buffer
 pub record Printing : Type 0 where
-  pub answer : Text
+  pub answer : Result ℕ Refusal
   pub out : List ℕ
 
-abbrev pub printing : Text → List ℕ → Printing
+abbrev pub printing : Result ℕ Refusal → List ℕ → Printing
 printing t out = record { answer = t; out = out }
 
 -- the text at the buffer's front, and how long it is
 abbrev pub printed : (text buffer : List ℕ) → Printing
-printed t out = printing (Bytes (length t)) (front t out)
+printed t out = printing (Ok (length t)) (front t out)
 
 -- refusal 2: the buffer is shorter than the longest text; 12: a command above 127 to be sent; 7: a payload of over 7,609 bytes. A refused call leaves the buffer
 unfoldable pub text_of : Answer → (message short out : List ℕ) → Printing
 text_of a m r out =
-    refusing (λ number. printing (Refused number) out)
-    ((ltb (length out) longest, 2) ∷ (is_unsendable a, 12) ∷ (ltb largest (length (payload_of a m r)), 7) ∷ [])
+    refusing (λ refusal. printing (Err refusal) out)
+    ((ltb (length out) longest, ShortBuffer) ∷ (is_unsendable a, Command) ∷ (ltb largest (length (payload_of a m r)), LongPayload) ∷ [])
     (printed (answer_lines (said_with a (payload_of a m r))) out)
 
 -- refusal 2: the buffer is shorter than the text
 unfoldable pub hex_text_of : (bytes out : List ℕ) → Printing
 hex_text_of bytes out =
-    refusing (λ number. printing (Refused number) out)
-    ((ltb (length out) (2 * length bytes), 2) ∷ [])
+    refusing (λ refusal. printing (Err refusal) out)
+    ((ltb (length out) (2 * length bytes), ShortBuffer) ∷ [])
     (printed (hex_of bytes) out)
 
 -- no text is longer than that

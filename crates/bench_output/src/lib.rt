@@ -7,13 +7,6 @@ mod printing;
 
 pub use printing::{answer_text, hex_text};
 
-// How much of the text buffer's front was written; or a refusal, which leaves the buffer as it came.
-#[derive(Clone, Copy)]
-pub enum Text {
-    Bytes(usize),
-    Refused(u8),
-}
-
 #[derive(Clone, Copy)]
 pub struct Texts;
 

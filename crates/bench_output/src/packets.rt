@@ -12,14 +12,11 @@ pub(crate) fn put_packets(cid: u32, cmd: u8, payload: &[u8], out: &mut [u8]) -> 
     requires { (cmd ≤ 127) × (length payload.now ≤ 7609) × (16899 ≤ length out.old) }
     ensures { Put 0 (packet_lines cid cmd payload.now) out.old result out.new }
 {
-    let count = packets_in(payload.len());
     let mut packet = [0; Limits::PACKET_SIZE];
     let mut place = 0;
-    let mut i = 0;
-    while i < count {
-        send::write_packet(cid, cmd, payload, i, &mut packet);
+    for i in 0..packets_in(payload.len()) {
+        let _ = send::write_packet(cid, cmd, payload, i, &mut packet);
         place = put_packet(&packet, out, place);
-        i += 1;
     }
     place
 }
@@ -44,17 +41,15 @@ fn put_packet(packet: &[u8], out: &mut [u8], at: usize) -> usize
     put(b"\n", out, b)
 }
 
-// How many bytes of a packet are shown: those in front of its last zeros, and never fewer than 7.
+// How many bytes of a packet are shown: those in front of its last zeros, and never fewer than LEAST.
 fn shown_in(packet: &[u8]) -> usize
     requires { 7 ≤ length packet.now }
     ensures { (result ≤ length packet.now) × (take result packet.now ≡ trimmed packet.now) }
 {
-    let mut shown = packet.len();
-    while shown > 7 {
-        if packet[shown - 1] != 0 {
-            return shown;
-        }
-        shown -= 1;
+    match packet.iter().rposition(|byte| *byte != 0) {
+        Some(last) if last >= LEAST => last + 1,
+        _ => LEAST,
     }
-    shown
 }
+
+const LEAST: usize = 7;

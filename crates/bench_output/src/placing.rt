@@ -16,11 +16,9 @@ pub(crate) fn put_hex(part: &[u8], out: &mut [u8], at: usize) -> usize
     ensures { Put at (hex_of part.now) out.old result out.new }
 {
     let mut place = at;
-    let mut i = 0;
-    while i < part.len() {
-        put_byte(part[i], out, place);
+    for byte in part {
+        put_byte(*byte, out, place);
         place += 2;
-        i += 1;
     }
     place
 }

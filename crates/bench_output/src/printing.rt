@@ -3,38 +3,43 @@ ghost use Rattle.std.specs.Prelude.{◌≡◌, false, ◌+◌, ◌*◌, ◌≤�
 ghost use Rattle.bench_output.specs.Placing.{Put};
 ghost use Rattle.bench_output.specs.Printing.{payload_text, command_line, refused_line, answer_lines, said_with, is_unsendable, printing, text_of, hex_text_of};
 
+use crate::Texts;
 use crate::packets::put_packets;
 use crate::placing::{put, put_decimal, put_hex};
-use crate::{Text, Texts};
 use answers::Answer;
 use packet::{Limits, Refusal};
 
 // The lines that an answer prints, each with its newline, at the front of out. A buffer shorter than the longest text is refused
 // with 2, a command above 127 to be sent with 12, a payload of more than 7,609 bytes with 7. One lifetime for both buffers, as the payload is a part of either.
-pub fn answer_text<'a>(answer: Answer, message: &'a [u8], reply: &'a [u8], out: &mut [u8]) -> Text
+pub fn answer_text<'a>(
+    answer: Answer,
+    message: &'a [u8],
+    reply: &'a [u8],
+    out: &mut [u8],
+) -> Result<usize, Refusal>
     ensures { printing result out.new ≡ text_of answer message.now reply.now out.old }
 {
     if out.len() < Texts::LONGEST {
-        return Text::Refused(Refusal::SHORT_BUFFER);
+        return Err(Refusal::ShortBuffer);
     }
     if is_unsendable(answer) {
-        return Text::Refused(Refusal::COMMAND);
+        return Err(Refusal::Command);
     }
     let payload = answers::payload(answer, message, reply);
     if payload.len() > Limits::LARGEST_PAYLOAD {
-        return Text::Refused(Refusal::LONG_PAYLOAD);
+        return Err(Refusal::LongPayload);
     }
-    Text::Bytes(put_answer(answer, payload, out))
+    Ok(put_answer(answer, payload, out))
 }
 
 // Bytes in lower-case hex, at the front of out. A buffer with less room than that is refused with 2.
-pub fn hex_text(bytes: &[u8], out: &mut [u8]) -> Text
+pub fn hex_text(bytes: &[u8], out: &mut [u8]) -> Result<usize, Refusal>
     ensures { printing result out.new ≡ hex_text_of bytes.now out.old }
 {
     if out.len() < 2 * bytes.len() {
-        return Text::Refused(Refusal::SHORT_BUFFER);
+        return Err(Refusal::ShortBuffer);
     }
-    Text::Bytes(put_hex(bytes, out, 0))
+    Ok(put_hex(bytes, out, 0))
 }
 
 // Whether it is to be sent with a command above 127, which no packet can carry.
@@ -42,23 +47,8 @@ fn is_unsendable(answer: Answer) -> bool
     ensures { result ≡ is_unsendable answer }
 {
     match answer {
-        Answer::Refused(_) => false,
-        Answer::Nothing => false,
-        Answer::Message {
-            cid: _,
-            cmd: _,
-            len: _,
-        } => false,
-        Answer::Echo {
-            cid: _,
-            cmd,
-            len: _,
-        } => cmd.number() > 127,
-        Answer::Reply {
-            cid: _,
-            cmd,
-            len: _,
-        } => cmd.number() > 127,
+        Answer::Echo { cmd, .. } | Answer::Reply { cmd, .. } => cmd.number() > 127,
+        Answer::Message { .. } | Answer::Nothing | Answer::Refused(_) => false,
     }
 }
 
@@ -69,9 +59,10 @@ fn put_answer(answer: Answer, payload: &[u8], out: &mut [u8]) -> usize
     match answer {
         Answer::Refused(number) => put_refused(number, out),
         Answer::Nothing => put(b"-\n", out, 0),
-        Answer::Message { cid, cmd, len: _ } => put_command(cid, cmd.number(), payload, out),
-        Answer::Echo { cid, cmd, len: _ } => put_packets(cid, cmd.number(), payload, out),
-        Answer::Reply { cid, cmd, len: _ } => put_packets(cid, cmd.number(), payload, out),
+        Answer::Message { cid, cmd, .. } => put_command(cid, cmd.number(), payload, out),
+        Answer::Echo { cid, cmd, .. } | Answer::Reply { cid, cmd, .. } => {
+            put_packets(cid, cmd.number(), payload, out)
+        }
     }
 }
 
@@ -88,17 +79,10 @@ fn put_command(cid: u32, cmd: u8, payload: &[u8], out: &mut [u8]) -> usize
     requires { 21 + 2 * length payload.now ≤ length out.old }
     ensures { Put 0 (command_line cid cmd payload.now) out.old result out.new }
 {
-    let channel = [
-        (cid / 0x100_0000) as u8,
-        (cid / 0x1_0000 % 0x100) as u8,
-        (cid / 0x100 % 0x100) as u8,
-        (cid % 0x100) as u8,
-    ];
-    let command = [cmd];
     let a = put(b"command ", out, 0);
-    let b = put_hex(&channel, out, a);
+    let b = put_hex(&cid.to_be_bytes(), out, a);
     let c = put(b" ", out, b);
-    let d = put_hex(&command, out, c);
+    let d = put_hex(&[cmd], out, c);
     let e = put_payload(payload, out, d);
     put(b"\n", out, e)
 }
@@ -107,7 +91,7 @@ fn put_payload(payload: &[u8], out: &mut [u8], at: usize) -> usize
     requires { at + (1 + 2 * length payload.now) ≤ length out.old }
     ensures { Put at (payload_text payload.now) out.old result out.new }
 {
-    if payload.len() == 0 {
+    if payload.is_empty() {
         return at;
     }
     let a = put(b" ", out, at);

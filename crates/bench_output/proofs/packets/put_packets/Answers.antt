@@ -11,7 +11,7 @@ use Rattle.std.proofs.Common.{rules}
 use Rattle.bench_output.proofs.packets.put_packets.Goals as goal
 
 pub loop-i-init : goal.loop-i-init
-loop-i-init c = (search rules, search rules, search rules, search rules, rw first-none (put-none _ _))
+loop-i-init c = (search rules, search rules, search rules, rw first-none (put-none _ _))
 
 pub loop-i-preserved : goal.loop-i-preserved
 loop-i-preserved c =
@@ -22,15 +22,14 @@ loop-i-preserved c =
     let is : p ≡ get_or (wire a.cid a.cmd a.payload.now) at.i [] =
     packet-written a.cid a.cmd a.payload.now at.i within at.packet p (omega arith) (omega arith) (omega arith) c.write_packet.ensures in
     let long : length p ≡ 64 = omega (arith, c.write_packet.auto.packet) in (
-      search rules,
       omega (arith, c.put_packet-place.ensures.next, line-length p (omega arith)),
       search rules,
       search rules,
-      packets-turn a.cid a.cmd a.payload.now at.i within is (omega arith) at.invariant.4 c.put_packet-place.ensures,
+      packets-turn a.cid a.cmd a.payload.now at.i within is (omega arith) at.invariant.3 c.put_packet-place.ensures,
     )
 
 pub returns : goal.returns
 returns c =
     let at = c.loop-i in
     let a = c.args in
-    rw (first-all a.cid a.cmd a.payload.now at.i (omega arith)) at at.invariant.4
+    rw (first-all a.cid a.cmd a.payload.now at.i (omega arith)) at at.invariant.3

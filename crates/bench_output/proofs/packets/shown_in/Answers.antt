@@ -1,30 +1,18 @@
+use Prim.Native.Nat.{◌+◌, ◌-◌}
 use native.Mathlib.Omega.{arith}
-use mathlib.Core.Path.{◌≡◌, sym, ap, ◌∙◌}
-use lib.ListN.{length, take}
-use lib.Seq.{take-length, length-take-le}
-use Rattle.bench_output.specs.Packets.{trimmed}
-use Rattle.bench_output.proofs.Spelling.{trim-here, trim-back, trim-seven}
+use mathlib.Core.Path.{◌≡◌}
 use Rattle.std.proofs.Common.{rules}
+use Rattle.bench_output.proofs.Spelling.{shown-last, shown-least}
 use Rattle.bench_output.proofs.packets.shown_in.Goals as goal
 
-pub loop-shown-init : goal.loop-shown-init
-loop-shown-init c = (search rules, search rules, ap trimmed (take-length c.args.packet.now))
+pub returns-in-Some : goal.returns-in-Some
+returns-in-Some c =
+    let last = c.in-Some.last in
+    let e : last + 1 - 1 ≡ last = omega arith in
+    (omega (arith, c.in-Some.ensures.bound), shown-last c.args.packet.now (last + 1) (omega arith) (search rules) (search rules) (omega arith) (rw e (search rules)))
 
-pub returns-then-packet-shown-ne0 : goal.returns-then-packet-shown-ne0
-returns-then-packet-shown-ne0 c =
-    let at = c.loop-shown in
-    let p = c.args.packet.now in
-    (search rules, sym (trim-here p at.shown (omega arith) (omega arith) c.if-packet-shown-ne0.true) ∙ at.invariant.2)
+pub returns-in_default : goal.returns-in_default
+returns-in_default c = (omega arith, shown-least c.args.packet.now 7 (omega arith) (omega arith) (λ j h k. search rules) (omega arith))
 
-pub loop-shown-preserved : goal.loop-shown-preserved
-loop-shown-preserved c =
-    let at = c.loop-shown in
-    let p = c.args.packet.now in
-    (search rules, search rules, sym (trim-back p at.shown (omega arith) (omega arith) c.if-packet-shown-ne0.false) ∙ at.invariant.2)
-
-pub returns : goal.returns
-returns c =
-    let at = c.loop-shown in
-    let p = c.args.packet.now in
-    let seven : length (take at.shown p) ≡ 7 = length-take-le at.shown p (omega arith) ∙ omega arith in
-    (search rules, sym (trim-seven (take at.shown p) seven) ∙ at.invariant.2)
+pub returns-in_default-2 : goal.returns-in_default-2
+returns-in_default-2 c = (omega arith, shown-least c.args.packet.now 7 (omega arith) (omega arith) (λ j h k. search rules) (omega arith))
