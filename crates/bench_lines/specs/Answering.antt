@@ -1,6 +1,6 @@
 -- docs/RULES.md, The bench's lines: what a line prints, and what it leaves. Assumes nothing.
-use Rattle.std.specs.Prelude.{ℕ, ◌≤◌, ◌≡◌, List, [], ◌∷◌, length, ltb}
-use Rattle.ctaphid.specs.Choice.{refusing}
+use Rattle.std.specs.Prelude.{ℕ, ◌≤◌, ◌≡◌, List, [], ◌∷◌, Err, length, ltb}
+use Rattle.bench_input.specs.Refusing.{refusing}
 use Rattle.ctaphid.specs.Limits.{packet_size, largest}
 use Rattle.ctaphid.specs.Messages.{padded}
 use Rattle.ctaphid.specs.Transport.{Event}
@@ -15,7 +15,7 @@ use Rattle.bench_input.specs.Hex.{ascii}
 use Rattle.bench_input.specs.Lines.{Reading, reads, unread, line_of}
 use Rattle.bench_output.specs.Printing.{Printing, printed, answer_lines, text_of, longest}
 use Rattle.bench_lines.specs.declared.Printed.{Printed}
-use Rattle.bench_output.specs.declared.Text.TheVariants.{Refused}
+use Rattle.packet.specs.declared.refusal.Refusal.TheVariants.{ShortBuffer}
 
 -- all that a call leaves: what it returns, and the three buffers
 pub record Benched : Type 0 where
@@ -45,8 +45,8 @@ line_on hid unread m r out = leaves hid (printed unread_line out) m r
 -- refusal 2: the text buffer is shorter than the longest text
 unfoldable pub bench_of : MainHid → (line message reply out : List ℕ) → Benched
 bench_of hid l m r out =
-    refusing (λ number. benched (record { hid = hid; text = Refused number }) m r out)
-    ((ltb (length out) longest, 2) ∷ [])
+    refusing (λ refusal. benched (record { hid = hid; text = Err refusal }) m r out)
+    ((ltb (length out) longest, ShortBuffer) ∷ [])
     (line_on hid (line_of l) m r out)
 
 -- a step of the device from a sound state prints what the standard's device answers. (That lent buffers keep their length is known of every call)

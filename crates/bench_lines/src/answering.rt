@@ -6,7 +6,7 @@ ghost use Rattle.bench_lines.specs.Answering.{benched, bench_of, step_on, unread
 
 use crate::Printed;
 use bench_input::Line;
-use bench_output::{Text, Texts};
+use bench_output::Texts;
 use hid::MainHid;
 use packet::{Limits, Refusal};
 
@@ -24,17 +24,17 @@ pub fn bench_line(
     if out.len() < Texts::LONGEST {
         return Printed {
             hid,
-            text: Text::Refused(Refusal::SHORT_BUFFER),
+            text: Err(Refusal::ShortBuffer),
         };
     }
     let mut packet = [0u8; Limits::PACKET_SIZE];
     match bench_input::read_line(line, &mut packet) {
-        Line::Input { time, disabled } => {
+        Ok(Some(Line { time, disabled })) => {
             step_on(hid, time, disabled, &packet, message, reply, out)
         }
-        Line::Unread => unread(hid, out),
+        Ok(None) => unread(hid, out),
         // never: the packet has 64 bytes
-        Line::Refused(_) => unread(hid, out),
+        Err(_) => unread(hid, out),
     }
 }
 
@@ -65,6 +65,6 @@ fn unread(hid: MainHid, out: &mut [u8]) -> Printed
     out[..text.len()].copy_from_slice(text);
     Printed {
         hid,
-        text: Text::Bytes(text.len()),
+        text: Ok(text.len()),
     }
 }

@@ -4,12 +4,12 @@
 mod answering;
 
 pub use answering::bench_line;
-use bench_output::Text;
 use hid::MainHid;
+use packet::Refusal;
 
-// The device after a line, and what the line prints.
+// The device after a line, and how much of the text buffer's front the line prints.
 #[derive(Clone, Copy)]
 pub struct Printed {
     pub hid: MainHid,
-    pub text: Text,
+    pub text: Result<usize, Refusal>,
 }
