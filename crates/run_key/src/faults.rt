@@ -31,9 +31,9 @@ fn limits(rt: &impl Print) {
     each(rt, b"nothing on", own());
     let mut hid = own();
     hid.max = 7609;
-    each_long(rt, b"maximum 7,609", hid);
+    each_with(rt, b"maximum 7,609", hid, &mut [0; 7610]);
     hid.max = 7610;
-    each_long(rt, b"maximum 7,610", hid);
+    each_with(rt, b"maximum 7,610", hid, &mut [0; 7610]);
     hid = own();
     hid.allocated = 0xFFFF_FFFE;
     each(rt, b"count FFFFFFFE", hid);
@@ -54,9 +54,7 @@ fn shared(rt: &impl Print) {
     hid = own();
     hid.spare = 0xFF;
     let mut key = key_of(hid, own());
-    let mut vendor = key.vendor;
-    vendor.spare = 0xFFFF;
-    key.vendor = vendor;
+    key.vendor.spare = 0xFFFF;
     trial(rt, b"any spare numbers", key, LAST);
     trial(
         rt,
@@ -87,12 +85,9 @@ fn deadlines(rt: &impl Print) {
 // The wink is main's alone.
 fn winks(rt: &impl Print) {
     let mut key = key_of(own(), own());
-    let mut main = key.main;
-    main.wink = LAST + 5000;
-    key.main = main;
+    key.main.wink = LAST + 5000;
     trial(rt, b"wink deadline 5,000 past", key, LAST);
-    main.wink = LAST + 5001;
-    key.main = main;
+    key.main.wink = LAST + 5001;
     trial(rt, b"wink deadline 5,001 past", key, LAST);
 }
 
@@ -214,79 +209,40 @@ fn each_of(rt: &impl Print, name: &[u8], assembler: MessageAssembler, due: u16) 
 }
 
 fn each(rt: &impl Print, name: &[u8], hid: CtapHid) {
-    text(rt, b"main: ");
-    trial(rt, name, key_with(Side::Main, hid), LAST);
-    text(rt, b"vendor: ");
-    trial(rt, name, key_with(Side::Vendor, hid), LAST);
+    each_with(rt, name, hid, &mut [0; 300]);
 }
 
-fn each_long(rt: &impl Print, name: &[u8], hid: CtapHid) {
+fn each_with(rt: &impl Print, name: &[u8], hid: CtapHid, message: &mut [u8]) {
     text(rt, b"main: ");
-    trial_long(rt, name, key_with(Side::Main, hid));
+    trial_with(rt, name, key_with(Side::Main, hid), LAST, message);
     text(rt, b"vendor: ");
-    trial_long(rt, name, key_with(Side::Vendor, hid));
+    trial_with(rt, name, key_with(Side::Vendor, hid), LAST, message);
 }
 
 fn trial(rt: &impl Print, name: &[u8], key: Key, time: u64) {
+    trial_with(rt, name, key, time, &mut [0; 300]);
+}
+
+fn trial_with(rt: &impl Print, name: &[u8], key: Key, time: u64, message: &mut [u8]) {
     text(rt, name);
     text(rt, b":");
-    tried(
-        rt,
-        Side::Main,
-        key,
-        time,
-        &mut [UNWRITTEN; 300],
-        &[UNWRITTEN; 300],
-    );
+    tried(rt, Side::Main, key, time, message);
     text(rt, b";");
-    tried(
-        rt,
-        Side::Vendor,
-        key,
-        time,
-        &mut [UNWRITTEN; 300],
-        &[UNWRITTEN; 300],
-    );
+    tried(rt, Side::Vendor, key, time, message);
     text(rt, b";");
     running(rt, key, time);
     text(rt, b"\n");
 }
 
-// With message buffers that are long enough for a maximum that is too large.
-fn trial_long(rt: &impl Print, name: &[u8], key: Key) {
-    text(rt, name);
-    text(rt, b":");
-    tried(
-        rt,
-        Side::Main,
-        key,
-        LAST,
-        &mut [UNWRITTEN; 7610],
-        &[UNWRITTEN; 7610],
-    );
-    text(rt, b";");
-    tried(
-        rt,
-        Side::Vendor,
-        key,
-        LAST,
-        &mut [UNWRITTEN; 7610],
-        &[UNWRITTEN; 7610],
-    );
-    text(rt, b";");
-    running(rt, key, LAST);
-    text(rt, b"\n");
-}
-
-// The packet is a PING of two bytes on channel 1. The message buffer comes as came is.
-fn tried(rt: &impl Print, side: Side, key: Key, time: u64, message: &mut [u8], came: &[u8]) {
+// The packet is a PING of two bytes on channel 1.
+fn tried(rt: &impl Print, side: Side, key: Key, time: u64, message: &mut [u8]) {
     let mut packet = [0u8; Limits::PACKET_SIZE];
     let mut reply = [UNWRITTEN; Limits::SHORT_REPLY_SIZE];
     packet[..9].copy_from_slice(b"\x00\x00\x00\x01\x81\x00\x02\xab\xcd");
+    message.fill(UNWRITTEN);
     let stepped = step(side, key, time, &packet, message, &mut reply);
-    let answer = stepped.answer;
-    show(rt, answer);
-    let unwritten = &*message == came && reply == [UNWRITTEN; Limits::SHORT_REPLY_SIZE];
+    show(rt, stepped.answer);
+    let unwritten = message.iter().chain(&reply).all(|byte| *byte == UNWRITTEN);
     as_it_came(rt, unwritten, key, stepped.key);
 }
 

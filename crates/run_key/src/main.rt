@@ -65,12 +65,9 @@ fn set_up(rt: &impl Print, main: usize, vendor: usize, commands: &[u8]) {
 
 // Each interface has the maximum that was meant for it.
 fn fresh(rt: &impl Print, key: Key) {
-    let main = key.main;
-    let hid = main.hid;
-    let vendor = key.vendor;
     print(
         rt,
-        format_args!(" fresh, with {} and {},", hid.max, vendor.max),
+        format_args!(" fresh, with {} and {},", key.main.hid.max, key.vendor.max),
     );
     printing::running(rt, key, 0);
 }

@@ -3,7 +3,7 @@ use crate::printing::{running, show};
 use crate::states::{LAST, key_of, key_with, locked_until, own};
 use crate::stepping::{Side, step};
 use key::Key;
-use report::text;
+use report::{print, text};
 
 pub(crate) fn all(rt: &impl Print) {
     let mut hid = own();
@@ -19,12 +19,11 @@ pub(crate) fn all(rt: &impl Print) {
 }
 
 fn faulty(rt: &impl Print, name: &[u8], unsound: Key) {
-    text(rt, name);
-    text(rt, b", all four faults, main:");
-    repairs(rt, Side::Main, unsound);
-    text(rt, name);
-    text(rt, b", all four faults, vendor:");
-    repairs(rt, Side::Vendor, unsound);
+    for (interface, side) in SIDES {
+        text(rt, name);
+        print(rt, format_args!(", all four faults, {interface}:"));
+        repairs(rt, side, unsound);
+    }
     text(rt, name);
     text(rt, b", both faults, asked:");
     running(rt, unsound, LAST - 1);
@@ -32,6 +31,8 @@ fn faulty(rt: &impl Print, name: &[u8], unsound: Key) {
     running(rt, key_of(own(), own()), LAST - 1);
     text(rt, b"\n");
 }
+
+const SIDES: [(&str, Side); 2] = [("main", Side::Main), ("vendor", Side::Vendor)];
 
 // One fault after the other is repaired: the packet, the message buffer, the reply buffer, the state, the time.
 fn repairs(rt: &impl Print, side: Side, unsound: Key) {
@@ -54,31 +55,20 @@ fn repairs(rt: &impl Print, side: Side, unsound: Key) {
 
 // The other interface's maximum is 300.
 fn buffers(rt: &impl Print) {
-    let small_main = key_with(Side::Main, own());
-    let small_vendor = key_with(Side::Vendor, own());
-    text(
-        rt,
-        b"message buffers of 199, 200, 299, 300; a maximum of 200 on main, main:",
-    );
-    lent(rt, Side::Main, small_main);
-    text(
-        rt,
-        b"message buffers of 199, 200, 299, 300; a maximum of 200 on main, vendor:",
-    );
-    lent(rt, Side::Vendor, small_main);
-    text(
-        rt,
-        b"message buffers of 199, 200, 299, 300; a maximum of 200 on vendor, main:",
-    );
-    lent(rt, Side::Main, small_vendor);
-    text(
-        rt,
-        b"message buffers of 199, 200, 299, 300; a maximum of 200 on vendor, vendor:",
-    );
-    lent(rt, Side::Vendor, small_vendor);
+    for (small, side) in SIDES {
+        let key = key_with(side, own());
+        lent(rt, small, "main", Side::Main, key);
+        lent(rt, small, "vendor", Side::Vendor, key);
+    }
 }
 
-fn lent(rt: &impl Print, side: Side, key: Key) {
+fn lent(rt: &impl Print, small: &str, interface: &str, side: Side, key: Key) {
+    print(
+        rt,
+        format_args!(
+            "message buffers of 199, 200, 299, 300; a maximum of 200 on {small}, {interface}:"
+        ),
+    );
     given(rt, side, key, &mut [0u8; 199]);
     given(rt, side, key, &mut [0u8; 200]);
     given(rt, side, key, &mut [0u8; 299]);
@@ -109,7 +99,5 @@ fn answered(
     message: &mut [u8],
     reply: &mut [u8],
 ) {
-    let stepped = step(side, key, time, packet, message, reply);
-    let answer = stepped.answer;
-    show(rt, answer);
+    show(rt, step(side, key, time, packet, message, reply).answer);
 }

@@ -50,8 +50,10 @@ pub(crate) fn transaction() -> MessageAssembler {
 }
 
 pub(crate) fn key_with(side: Side, hid: CtapHid) -> Key {
-    let mut beside = other();
-    beside.last = hid.last;
+    let beside = CtapHid {
+        last: hid.last,
+        ..other()
+    };
     match side {
         Side::Main => key_of(hid, beside),
         Side::Vendor => key_of(beside, hid),
@@ -60,20 +62,18 @@ pub(crate) fn key_with(side: Side, hid: CtapHid) -> Key {
 
 // Of vendor's transport only what is its own.
 pub(crate) fn key_of(main: CtapHid, vendor: CtapHid) -> Key {
-    let part = vendor_part(vendor);
     Key {
         main: MainHid { hid: main, wink: 0 },
-        vendor: part,
+        vendor: vendor_part(vendor),
     }
 }
 
 // A sound key whose locks have these deadlines, each held by channel 1.
 pub(crate) fn locked_until(main: u64, vendor: u64) -> Key {
-    let mut one = own();
-    one.locked = 1;
-    one.lock = main;
-    let mut another = own();
-    another.locked = 1;
-    another.lock = vendor;
-    key_of(one, another)
+    let held = |lock| CtapHid {
+        locked: 1,
+        lock,
+        ..own()
+    };
+    key_of(held(main), held(vendor))
 }

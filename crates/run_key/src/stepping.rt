@@ -25,41 +25,42 @@ pub(crate) fn step(
     match side {
         Side::Main => {
             let stepped = key.step_main(time, packet, message, reply);
-            let main = stepped.hid;
-            let vendor = key.vendor;
-            let answer = stepped.answer;
-            let next = Key { main, vendor };
-            KeyStepped { key: next, answer }
+            KeyStepped {
+                key: Key {
+                    main: stepped.hid,
+                    ..key
+                },
+                answer: stepped.answer,
+            }
         }
         Side::Vendor => {
             let stepped = key.step_vendor(time, packet, message, reply);
-            let answer = stepped.answer;
-            let next = with_vendor(key, stepped.hid);
-            KeyStepped { key: next, answer }
+            KeyStepped {
+                key: with_vendor(key, stepped.hid),
+                answer: stepped.answer,
+            }
         }
     }
 }
 
 // All that vendor's step gives back is laid down, so that one that alters more than the last time of what is shared is seen.
 fn with_vendor(key: Key, stepped: CtapHid) -> Key {
-    let was = key.vendor;
-    let mut main = key.main;
-    let mut hid = main.hid;
-    hid.last = stepped.last;
-    hid.vendor = stepped.vendor;
-    hid.u2f = stepped.u2f;
-    hid.spare = stepped.spare;
-    main.hid = hid;
-    let mut vendor = vendor_part(stepped);
-    vendor.spare = was.spare;
-    Key { main, vendor }
+    let mut next = key;
+    next.main.hid.last = stepped.last;
+    next.main.hid.vendor = stepped.vendor;
+    next.main.hid.u2f = stepped.u2f;
+    next.main.hid.spare = stepped.spare;
+    next.vendor = VendorHid {
+        spare: key.vendor.spare,
+        ..vendor_part(stepped)
+    };
+    next
 }
 
 // What of a transport is vendor's own.
 pub(crate) fn vendor_part(hid: CtapHid) -> VendorHid {
-    let assembler = hid.assembler;
     VendorHid {
-        assembler,
+        assembler: hid.assembler,
         lock: hid.lock,
         allocated: hid.allocated,
         locked: hid.locked,
@@ -75,20 +76,12 @@ pub(crate) fn is_same(a: Key, b: Key) -> bool {
 
 // Maxima, U2F, the vendor commands and the spare numbers.
 pub(crate) fn is_set_same(a: Key, b: Key) -> bool {
-    is_vendor_set_same(a.vendor, b.vendor) && is_main_set_same(a.main, b.main)
-}
-
-fn is_main_set_same(a: MainHid, b: MainHid) -> bool {
-    let one = a.hid;
-    let another = b.hid;
-    one.max == another.max
-        && one.u2f == another.u2f
-        && one.vendor == another.vendor
-        && one.spare == another.spare
-}
-
-fn is_vendor_set_same(a: VendorHid, b: VendorHid) -> bool {
-    a.max == b.max && a.spare == b.spare
+    a.main.hid.max == b.main.hid.max
+        && a.main.hid.u2f == b.main.hid.u2f
+        && a.main.hid.vendor == b.main.hid.vendor
+        && a.main.hid.spare == b.main.hid.spare
+        && a.vendor.max == b.vendor.max
+        && a.vendor.spare == b.vendor.spare
 }
 
 fn is_same_main(a: MainHid, b: MainHid) -> bool {
