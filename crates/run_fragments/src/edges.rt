@@ -143,35 +143,25 @@ fn read(rt: &impl Print, collection: Collection, fragment: &[u8]) {
 fn read_at(rt: &impl Print, size: usize, collection: Collection, fragment: &[u8]) {
     let mut buffer = [0xAA, 0xBB, 0xCC, 0xDD, 0xEE];
     let progress = ble::read_fragment(collection, size, fragment, &mut buffer);
-    let answer = progress.answer;
-    let next = progress.collection;
-    tell(rt, answer);
-    text(rt, b", collection");
-    number(rt, next.len as u64);
-    number(rt, next.taken as u64);
-    number(rt, next.cmd as u64);
-    number(rt, next.seq as u64);
-    text(rt, b", buffer ");
+    tell(rt, progress.answer);
+    let Collection {
+        len,
+        taken,
+        cmd,
+        seq,
+    } = progress.collection;
+    print(
+        rt,
+        format_args!(", collection {len} {taken} {cmd} {seq}, buffer "),
+    );
     hex(rt, &buffer);
     text(rt, b"\n");
 }
 
-fn number(rt: &impl Print, n: u64) {
-    print(rt, format_args!(" {n}"));
-}
-
 fn tell(rt: &impl Print, answer: Answer) {
     match answer {
-        Answer::Refused(refusal) => {
-            text(rt, b"refused");
-            number(rt, refusal as u64);
-        }
+        Answer::Refused(refusal) => print(rt, format_args!("refused {refusal}")),
         Answer::Waiting => text(rt, b"waiting"),
-        Answer::Message { cmd, len } => {
-            text(rt, b"message");
-            number(rt, cmd as u64);
-            text(rt, b" of");
-            number(rt, len as u64);
-        }
+        Answer::Message { cmd, len } => print(rt, format_args!("message {cmd} of {len}")),
     }
 }

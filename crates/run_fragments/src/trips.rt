@@ -10,20 +10,27 @@ pub(crate) fn there_and_back(rt: &impl Print) {
     );
     let mut payload = [0u8; 65535];
     count_up(&mut payload);
-    send(rt, 20, &payload);
-    send(rt, 21, &payload);
-    send(rt, 511, &payload);
-    send(rt, 512, &payload);
-    send(rt, 512, front(&payload, 509));
-    send(rt, 512, front(&payload, 510));
-    send(rt, 20, front(&payload, 17));
-    send(rt, 20, front(&payload, 18));
-    send(rt, 20, front(&payload, 0));
+    for (size, len) in SENT {
+        send(rt, size, &payload[..len]);
+    }
 }
 
+// The size of a fragment, and how much of the message.
+const SENT: [(usize, usize); 9] = [
+    (20, 65535),
+    (21, 65535),
+    (511, 65535),
+    (512, 65535),
+    (512, 509),
+    (512, 510),
+    (20, 17),
+    (20, 18),
+    (20, 0),
+];
+
 fn count_up(payload: &mut [u8]) {
-    for i in 0..payload.len() {
-        payload[i] = (i % 251) as u8;
+    for (i, byte) in payload.iter_mut().enumerate() {
+        *byte = (i % 251) as u8;
     }
 }
 
@@ -39,7 +46,7 @@ fn send(rt: &impl Print, size: usize, payload: &[u8]) {
 fn trip(rt: &impl Print, size: usize, payload: &[u8], buffer: &mut [u8]) {
     let mut room = [0u8; 512];
     let mut collection = Collection::new();
-    let mut again = 0;
+    let mut again = 0usize;
     for index in 0..4000 {
         let Written::Fragment(n) = ble::write_fragment(
             size,
@@ -53,9 +60,10 @@ fn trip(rt: &impl Print, size: usize, payload: &[u8], buffer: &mut [u8]) {
         let fragment = front(&room, n);
         let progress = ble::read_fragment(collection, size, fragment, buffer);
         collection = progress.collection;
-        let answer = progress.answer;
-        again = counted(index, fragment, again);
-        if told(rt, answer, buffer, payload, index + 1, again) {
+        if is_number_0_again(index, fragment) {
+            again = again.saturating_add(1);
+        }
+        if told(rt, progress.answer, buffer, payload, index + 1, again) {
             last(rt, fragment);
             return;
         }
@@ -63,27 +71,12 @@ fn trip(rt: &impl Print, size: usize, payload: &[u8], buffer: &mut [u8]) {
 }
 
 fn front(bytes: &[u8], len: usize) -> &[u8] {
-    if len <= bytes.len() {
-        return &bytes[..len];
-    }
-    bytes
+    bytes.get(..len).unwrap_or(bytes)
 }
 
-// One more where a continuation past the first has number 0.
-fn counted(index: usize, fragment: &[u8], again: usize) -> usize {
-    if index < 2 {
-        return again;
-    }
-    if fragment.len() == 0 {
-        return again;
-    }
-    if fragment[0] != 0 {
-        return again;
-    }
-    if again < 4000 {
-        return again + 1;
-    }
-    again
+// In a continuation past the first.
+fn is_number_0_again(index: usize, fragment: &[u8]) -> bool {
+    index >= 2 && fragment.first() == Some(&0)
 }
 
 // Whether that was all.

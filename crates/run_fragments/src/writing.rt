@@ -4,19 +4,25 @@ use report::{hex, print, text};
 
 pub(crate) fn counts(rt: &impl Print) {
     text(rt, b"how many fragments, by size and length\n");
-    count(rt, 20, 0);
-    count(rt, 20, 17);
-    count(rt, 20, 18);
-    count(rt, 20, 36);
-    count(rt, 20, 37);
-    count(rt, 20, 65535);
-    count(rt, 512, 509);
-    count(rt, 512, 510);
-    count(rt, 512, 65535);
-    count(rt, 20, 65536);
-    count(rt, 19, 65536);
-    count(rt, 513, 0);
+    for (size, len) in COUNTED {
+        count(rt, size, len);
+    }
 }
+
+const COUNTED: [(usize, usize); 12] = [
+    (20, 0),
+    (20, 17),
+    (20, 18),
+    (20, 36),
+    (20, 37),
+    (20, 65535),
+    (512, 509),
+    (512, 510),
+    (512, 65535),
+    (20, 65536),
+    (19, 65536),
+    (513, 0),
+];
 
 fn count(rt: &impl Print, size: usize, len: usize) {
     number(rt, size);
@@ -46,9 +52,8 @@ const FORTY: [u8; 40] = [
 
 pub(crate) fn example(rt: &impl Print) {
     text(rt, b"40 bytes at 20, in a buffer of 22\n");
-    let forty = FORTY;
     for index in 0..4 {
-        write(rt, 20, BleCommand::PING, &forty, index, &mut [0xEE; 22]);
+        write(rt, 20, BleCommand::PING, &FORTY, index, &mut [0xEE; 22]);
     }
 }
 

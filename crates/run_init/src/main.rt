@@ -40,19 +40,15 @@ fn reply() -> [u8; 7610] {
 }
 
 fn front(payload: &[u8], len: usize) -> &[u8] {
-    if len <= payload.len() {
-        return &payload[..len];
-    }
-    payload
+    payload.get(..len).unwrap_or(payload)
 }
 
 fn show(rt: &impl Print, cmd: u8, payload: &[u8]) {
     print(rt, format_args!("{} bytes: ", payload.len()));
     let told = snjofrask::snjofrask_init_reply(cmd, payload);
     if told.refusal == 0 {
-        let nonce = told.nonce;
         text(rt, b"nonce ");
-        hex(rt, &nonce);
+        hex(rt, &told.nonce);
         print(rt, format_args!(", channel {:08x}, then ", told.cid));
         hex(
             rt,
@@ -74,14 +70,14 @@ fn show(rt: &impl Print, cmd: u8, payload: &[u8]) {
 
 // All of what follows, or of much its ends.
 fn show_rest(rt: &impl Print, rest: &[u8]) {
-    if rest.len() == 0 {
+    if rest.is_empty() {
         return;
     }
     text(rt, b": ");
     hex(rt, front(rest, 3));
-    if rest.len() > 3 {
+    if let [_, _, _, .., last] = rest {
         text(rt, b"..");
-        hex(rt, &rest[rest.len() - 1..]);
+        hex(rt, &[*last]);
     }
 }
 
@@ -101,8 +97,7 @@ fn send_reply(rt: &impl Print, payload: &[u8]) {
         };
         let progress = collection.read(BROADCAST, &packet, &mut buffer);
         collection = progress.collection;
-        let answer = progress.answer;
-        hear(rt, index, answer, &buffer);
+        hear(rt, index, progress.answer, &buffer);
     }
 }
 
