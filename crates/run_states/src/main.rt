@@ -3,15 +3,65 @@
 // the device. The packet always writes to a buffer, so a step that is taken alters something.
 #![tactic(auto)]
 
-use hid::{Answer, CtapHid, MainHid, MainReady, MainStepped, MessageAssembler, Ready, Running};
+use hid::{Answer, CtapHid, MainHid, MainReady, MessageAssembler, Ready, Running};
 use packet::Limits;
 use report::{hex, print, text};
 
-// What is tried: a transport, or a device.
-#[derive(Clone, Copy)]
-enum Layer {
-    Transport,
-    Device,
+// What is tried: a transport, or a device over it.
+trait Tried: Copy {
+    fn tried(
+        self,
+        time: u64,
+        packet: &[u8],
+        message: &mut [u8],
+        reply: &mut [u8],
+    ) -> (Self, Answer);
+
+    fn asked(self, time: u64) -> Running;
+
+    fn is_same(self, other: Self) -> bool;
+}
+
+impl Tried for CtapHid {
+    fn tried(
+        self,
+        time: u64,
+        packet: &[u8],
+        message: &mut [u8],
+        reply: &mut [u8],
+    ) -> (Self, Answer) {
+        let stepped = self.step(time, false, packet, message, reply);
+        (stepped.hid, stepped.answer)
+    }
+
+    fn asked(self, time: u64) -> Running {
+        self.is_locked_at(time)
+    }
+
+    fn is_same(self, other: Self) -> bool {
+        same(self, other)
+    }
+}
+
+impl Tried for MainHid {
+    fn tried(
+        self,
+        time: u64,
+        packet: &[u8],
+        message: &mut [u8],
+        reply: &mut [u8],
+    ) -> (Self, Answer) {
+        let stepped = self.step(time, false, packet, message, reply);
+        (stepped.hid, stepped.answer)
+    }
+
+    fn asked(self, time: u64) -> Running {
+        self.is_winking_at(time)
+    }
+
+    fn is_same(self, other: Self) -> bool {
+        same(self.hid, other.hid) && self.wink == other.wink
+    }
 }
 
 const LAST: u64 = 1000;
@@ -27,7 +77,6 @@ fn main(rt: HostRuntime) {
     channels(&rt);
     times(&rt);
     order(&rt);
-    main_order(&rt);
     set_up(&rt, 7609, b"");
     set_up(&rt, 7610, b"");
     set_up(&rt, 7609, b"\x7f\x40\x7f");
@@ -227,26 +276,20 @@ fn times(rt: &impl Print) {
 }
 
 fn order(rt: &impl Print) {
-    let mut hid = base();
-    hid.lock = LAST + 10001;
-    let unsound = MainHid { hid, wink: LAST };
-    repairs(rt, b"all four faults:", Layer::Transport, unsound);
+    let mut unsound = base();
+    unsound.lock = LAST + 10001;
+    text(rt, b"all four faults:");
+    repairs(rt, unsound, base());
+    text(rt, b"all four faults, the device:");
+    repairs(rt, winking_until(LAST + 5001), winking_until(LAST));
 }
 
-fn main_order(rt: &impl Print) {
-    let unsound = MainHid {
-        hid: base(),
-        wink: LAST + 5001,
-    };
-    repairs(rt, b"all four faults, the device:", Layer::Device, unsound);
+fn winking_until(wink: u64) -> MainHid {
+    MainHid { hid: base(), wink }
 }
 
 // One fault after the other is repaired: the packet, the message buffer, the reply buffer, the state, the time.
-fn repairs(rt: &impl Print, name: &[u8], layer: Layer, unsound: MainHid) {
-    let sound = MainHid {
-        hid: base(),
-        wink: LAST,
-    };
+fn repairs<T: Tried>(rt: &impl Print, unsound: T, sound: T) {
     let early = LAST - 1;
     let mut message = [0u8; 200];
     let mut reply = [0u8; 17];
@@ -254,28 +297,13 @@ fn repairs(rt: &impl Print, name: &[u8], layer: Layer, unsound: MainHid) {
     let mut short = [0u8; 16];
     let cut = [0u8; 63];
     let whole = [0u8; 64];
-    text(rt, name);
-    answered(rt, layer, unsound, early, &cut, &mut few, &mut short);
-    answered(rt, layer, unsound, early, &whole, &mut few, &mut short);
-    answered(rt, layer, unsound, early, &whole, &mut message, &mut short);
-    answered(rt, layer, unsound, early, &whole, &mut message, &mut reply);
-    answered(rt, layer, sound, early, &whole, &mut message, &mut reply);
-    answered(rt, layer, sound, LAST, &whole, &mut message, &mut reply);
+    show(rt, unsound.tried(early, &cut, &mut few, &mut short).1);
+    show(rt, unsound.tried(early, &whole, &mut few, &mut short).1);
+    show(rt, unsound.tried(early, &whole, &mut message, &mut short).1);
+    show(rt, unsound.tried(early, &whole, &mut message, &mut reply).1);
+    show(rt, sound.tried(early, &whole, &mut message, &mut reply).1);
+    show(rt, sound.tried(LAST, &whole, &mut message, &mut reply).1);
     text(rt, b"\n");
-}
-
-fn answered(
-    rt: &impl Print,
-    layer: Layer,
-    main: MainHid,
-    time: u64,
-    packet: &[u8],
-    message: &mut [u8],
-    reply: &mut [u8],
-) {
-    let stepped = step(layer, main, time, packet, message, reply);
-    let answer = stepped.answer;
-    show(rt, answer);
 }
 
 fn set_up(rt: &impl Print, max: usize, vendor: &[u8]) {
@@ -319,88 +347,40 @@ fn trial_with(
     time: u64,
     message: &mut [u8],
 ) {
-    let mut packet = [0u8; Limits::PACKET_SIZE];
-    packet[..9].copy_from_slice(b"\x00\x00\x00\x01\x81\x00\x02\xab\xcd");
-    let main = MainHid { hid, wink };
     text(rt, name);
     text(rt, b":");
-    tried(rt, Layer::Transport, main, time, &packet, message);
+    trial_on(rt, hid, time, message);
     text(rt, b";");
-    tried(rt, Layer::Device, main, time, &packet, message);
+    trial_on(rt, MainHid { hid, wink }, time, message);
     text(rt, b"\n");
 }
 
-fn tried(
-    rt: &impl Print,
-    layer: Layer,
-    main: MainHid,
-    time: u64,
-    packet: &[u8],
-    message: &mut [u8],
-) {
+fn trial_on(rt: &impl Print, fresh: impl Tried, time: u64, message: &mut [u8]) {
+    let mut packet = [0u8; Limits::PACKET_SIZE];
     let mut reply = [0u8; Limits::SHORT_REPLY_SIZE];
+    packet[..9].copy_from_slice(b"\x00\x00\x00\x01\x81\x00\x02\xab\xcd");
     fill(message);
     fill(&mut reply);
-    let stepped = step(layer, main, time, packet, message, &mut reply);
-    let answer = stepped.answer;
+    let (after, answer) = fresh.tried(time, &packet, message, &mut reply);
     show(rt, answer);
-    say(rt, asked(layer, main, time));
-    let state = same_main(main, stepped.hid);
-    as_it_came(rt, state && is_filled(message) && is_filled(&reply));
-}
-
-// A step of the transport leaves the wink as it is.
-fn step(
-    layer: Layer,
-    main: MainHid,
-    time: u64,
-    packet: &[u8],
-    message: &mut [u8],
-    reply: &mut [u8],
-) -> MainStepped {
-    match layer {
-        Layer::Device => main.step(time, false, packet, message, reply),
-        Layer::Transport => {
-            let below = main.hid;
-            let stepped = below.step(time, false, packet, message, reply);
-            let hid = stepped.hid;
-            let answer = stepped.answer;
-            let after = MainHid {
-                hid,
-                wink: main.wink,
-            };
-            MainStepped { hid: after, answer }
-        }
-    }
-}
-
-fn asked(layer: Layer, main: MainHid, time: u64) -> Running {
-    match layer {
-        Layer::Device => main.is_winking_at(time),
-        Layer::Transport => {
-            let hid = main.hid;
-            hid.is_locked_at(time)
-        }
-    }
+    say(rt, fresh.asked(time));
+    as_it_came(
+        rt,
+        fresh.is_same(after) && is_filled(message) && is_filled(&reply),
+    );
 }
 
 fn fill(buffer: &mut [u8]) {
-    for i in 0..buffer.len() {
-        buffer[i] = (i % 251) as u8;
+    for (i, byte) in buffer.iter_mut().enumerate() {
+        *byte = (i % 251) as u8;
     }
 }
 
 fn is_filled(buffer: &[u8]) -> bool {
-    for i in 0..buffer.len() {
-        if buffer[i] != (i % 251) as u8 {
-            return false;
-        }
-    }
-    true
-}
-
-fn same_main(a: MainHid, b: MainHid) -> bool {
-    same(a.hid, b.hid) && a.wink == b.wink
+    buffer
+        .iter()
+        .enumerate()
+        .all(|(i, byte)| *byte == (i % 251) as u8)
 }
 
 fn same(a: CtapHid, b: CtapHid) -> bool {
