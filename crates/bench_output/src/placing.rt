@@ -43,6 +43,7 @@ fn digit(d: u8) -> u8
     b'a' + (d - 10)
 }
 
+// By hand: what Display writes no contract says, and the text of a number of any size would have no bound, as NoneLonger needs one.
 pub(crate) fn put_decimal(number: u8, out: &mut [u8], at: usize) -> usize
     requires { at + 3 ≤ length out.old }
     ensures { Put at (decimal 3 number) out.old result out.new }

@@ -223,6 +223,7 @@ fn mark(rt: &impl Print, answer: Answer) {
     }
 }
 
+// As in run_key: one function for both would be public, and no contract can speak of what it writes.
 fn show(rt: &impl Print, answer: Answer) {
     match answer {
         Answer::Refused(number) => print(rt, format_args!("refused {number}")),

@@ -3,6 +3,7 @@ use hid::{Answer, Running};
 use key::Key;
 use report::{print, text};
 
+// As in run_states, with refused and say: one function for both would be public, and no contract can speak of what it writes.
 pub(crate) fn show(rt: &impl Print, answer: Answer) {
     if let Answer::Refused(number) = answer {
         refused(rt, number);

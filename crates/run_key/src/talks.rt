@@ -212,6 +212,7 @@ fn name(rt: &impl Print, side: Side) {
     }
 }
 
+// As in run_device: one function for both would be public, and no contract can speak of what it writes.
 fn show(rt: &impl Print, answer: Answer) {
     match answer {
         Answer::Refused(number) => print(rt, format_args!("refused {number}")),

@@ -405,6 +405,7 @@ fn same_assembler(a: MessageAssembler, b: MessageAssembler) -> bool {
         && a.seq == b.seq
 }
 
+// As in run_key, with say and refused: one function for both would be public, and no contract can speak of what it writes.
 fn show(rt: &impl Print, answer: Answer) {
     if let Answer::Refused(number) = answer {
         refused(rt, number);
