@@ -54,9 +54,6 @@ module _ (c : ℕ) where
   pub digit_given : '0' ≤ c → c ≤ '9' → is_ascii_digit c ≡ true
   digit_given h k = within_given '0' '9' c h k
 
-  pub below-digits : c < '0' → is_ascii_digit c ≡ false
-  below-digits h = simp (lt-leb '0' c h)
-
   pub above-digits : '0' ≤ c → '9' < c → is_ascii_digit c ≡ false
   above-digits h k = simp (le-leb '0' c h, lt-leb c '9' k)
 
