@@ -35,7 +35,7 @@ digit_at (d ∷ digits) h (suc i) l = digit_at digits h.2 i (omega arith)
 
 -- ---- a loop over the digits: what is left, one fewer a turn
 
-drop-one : (l : List ℕ) (i : ℕ) → i < length l → drop i l ≡ get_or l i 0 ∷ drop (i + 1) l
+pub drop-one : (l : List ℕ) (i : ℕ) → i < length l → drop i l ≡ get_or l i 0 ∷ drop (i + 1) l
 drop-one l i h = drop-cons l i 0 h ∙ ap (λ (n : ℕ). get_or l i 0 ∷ drop n l) (sym (add-one i))
 
 module _ (l : List ℕ) (i : ℕ) where

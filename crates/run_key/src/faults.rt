@@ -14,6 +14,12 @@ const TWO_TO_48: u64 = 0x1_0000_0000_0000;
 // Every byte of a buffer as it comes: no packet here has it, and no reply.
 const UNWRITTEN: u8 = 0xA5;
 
+// How long a message buffer is for a maximum that is too large.
+const LONG: usize = 7610;
+
+// The longest buffer, as it comes.
+const CAME: &[u8] = &[UNWRITTEN; LONG];
+
 pub(crate) fn all(rt: &impl Print) {
     limits(rt);
     shared(rt);
@@ -31,9 +37,9 @@ fn limits(rt: &impl Print) {
     each(rt, b"nothing on", own());
     let mut hid = own();
     hid.max = 7609;
-    each_with(rt, b"maximum 7,609", hid, &mut [0; 7610]);
+    each_with(rt, b"maximum 7,609", hid, &mut [0; LONG]);
     hid.max = 7610;
-    each_with(rt, b"maximum 7,610", hid, &mut [0; 7610]);
+    each_with(rt, b"maximum 7,610", hid, &mut [0; LONG]);
     hid = own();
     hid.allocated = 0xFFFF_FFFE;
     each(rt, b"count FFFFFFFE", hid);
@@ -242,8 +248,13 @@ fn tried(rt: &impl Print, side: Side, key: Key, time: u64, message: &mut [u8]) {
     message.fill(UNWRITTEN);
     let stepped = step(side, key, time, &packet, message, &mut reply);
     show(rt, stepped.answer);
-    let unwritten = message.iter().chain(&reply).all(|byte| *byte == UNWRITTEN);
+    let unwritten = is_unwritten(message) && is_unwritten(&reply);
     as_it_came(rt, unwritten, key, stepped.key);
+}
+
+// Compared as a whole, which takes far fewer instructions than a look at each byte.
+fn is_unwritten(buffer: &[u8]) -> bool {
+    CAME.get(..buffer.len()) == Some(buffer)
 }
 
 // No step alters the settings or a spare number.
